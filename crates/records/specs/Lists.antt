@@ -1,0 +1,158 @@
+-- Lists given by what stands at each index, lists put together from blocks, and stores into a list.
+-- Assumes nothing.
+use mathlib.Core.Path.{_≡_, refl, ap, ap₂, sym, _∙_}
+use mathlib.Core.List.{List, [], _∷_, _++_, append-nil, append-assoc}
+use Prim.Native.Nat.{ℕ, zero, suc, _+_, _-_, _*_, _≤_, _<_, suc-le-suc}
+use native.Mathlib.Nat.{not-suc-le-zero, le-of-suc-le-suc, add-suc, add-zero, suc-mul, zero-add}
+use native.Mathlib.Numerals.{add-one}
+use native.Mathlib.Omega.{arith}
+use lib.ListN.{length, getD, set, take, drop, length-append, List·getD-append}
+use lib.Seq.{ext-getD, sets, sets-eq, length-sets, getD-append-add}
+use Rattle.records.specs.Bounded.{cases-suc}
+
+-- ---- a list by index
+
+-- f 0, f 1, .., f (n - 1)
+unfoldable pub tab {ℓ} : {A : Type ℓ} → ℕ → (ℕ → A) → List A
+tab zero f = []
+tab (suc n) f = f 0 ∷ tab n (λ k. f (suc k))
+
+pub length-tab {ℓ} : {A : Type ℓ} (n : ℕ) (f : ℕ → A) → length (tab n f) ≡ n
+unfolding tab
+length-tab zero f = refl
+length-tab (suc n) f = ap suc (length-tab n (λ k. f (suc k)))
+
+pub getD-tab {ℓ} : {A : Type ℓ} (n : ℕ) (f : ℕ → A) (k : ℕ) (d : A) → k < n → getD (tab n f) k d ≡ f k
+unfolding tab
+getD-tab zero f k d l = absurd (not-suc-le-zero l)
+getD-tab (suc n) f zero d l = refl
+getD-tab (suc n) f (suc k) d l = getD-tab n (λ j. f (suc j)) k d (le-of-suc-le-suc l)
+
+-- a list of n that has f k at each k is the table of f
+pub tab-eq {ℓ} : {A : Type ℓ} (d : A) (n : ℕ) (f : ℕ → A) (l : List A) → length l ≡ n
+    → ((k : ℕ) → k < n → getD l k d ≡ f k) → l ≡ tab n f
+tab-eq d n f l e h =
+    ext-getD d l (tab n f) (e ∙ sym (length-tab n f))
+    (λ k lt. let m : k < n = omega arith in h k m ∙ sym (getD-tab n f k d m))
+
+-- a list is the table of its elements
+pub tab-self {ℓ} : {A : Type ℓ} (d : A) (l : List A) → l ≡ tab (length l) (λ k. getD l k d)
+tab-self d l = tab-eq d (length l) _ l refl (λ k h. refl)
+
+pub tab-ext {ℓ} : {A : Type ℓ} (n : ℕ) (f g : ℕ → A) → ((k : ℕ) → k < n → f k ≡ g k) → tab n f ≡ tab n g
+unfolding tab
+tab-ext zero f g h = refl
+tab-ext (suc n) f g h =
+    rw (h 0 (omega arith), tab-ext n (λ k. f (suc k)) (λ k. g (suc k)) (λ k l. h (suc k) (suc-le-suc l)))
+
+tab-suc {ℓ} : {A : Type ℓ} (n : ℕ) (f : ℕ → A) → tab (suc n) f ≡ tab n f ++ (f n ∷ [])
+unfolding tab
+tab-suc zero f = refl
+tab-suc {A} (suc n) f = ap (λ (l : List A). f 0 ∷ l) (tab-suc n (λ k. f (suc k)))
+
+pub tab-snoc {ℓ} : {A : Type ℓ} (n : ℕ) (f : ℕ → A) → tab (n + 1) f ≡ tab n f ++ (f n ∷ [])
+tab-snoc n f = rw add-one (tab-suc n f)
+
+-- ---- a list with its front replaced: what a loop that stores at 0, 1, .. has made of it
+
+-- d with f k put at each k below n
+unfoldable pub put : List ℕ → ℕ → (ℕ → ℕ) → List ℕ
+put [] n f = []
+put (x ∷ d) zero f = x ∷ d
+put (x ∷ d) (suc n) f = f 0 ∷ put d n (λ k. f (suc k))
+
+pub put-none : (d : List ℕ) (f : ℕ → ℕ) → put d 0 f ≡ d
+unfolding put
+put-none [] f = refl
+put-none (x ∷ d) f = refl
+
+put-suc : (d : List ℕ) (i : ℕ) (f : ℕ → ℕ) → set (put d i f) i (f i) ≡ put d (suc i) f
+unfolding put
+put-suc [] i f = refl
+put-suc (x ∷ d) zero f = ap (λ (t : List ℕ). f 0 ∷ t) (sym (put-none d (λ k. f (suc k))))
+put-suc (x ∷ d) (suc i) f = ap (λ (t : List ℕ). f 0 ∷ t) (put-suc d i (λ k. f (suc k)))
+
+pub put-more : (d : List ℕ) (i : ℕ) (f : ℕ → ℕ) → set (put d i f) i (f i) ≡ put d (i + 1) f
+put-more d i f = rw add-one (put-suc d i f)
+
+pub length-put : (d : List ℕ) (n : ℕ) (f : ℕ → ℕ) → length (put d n f) ≡ length d
+unfolding put
+length-put [] n f = refl
+length-put (x ∷ d) zero f = refl
+length-put (x ∷ d) (suc n) f = ap suc (length-put d n (λ k. f (suc k)))
+
+pub getD-put-rest : (d : List ℕ) (n : ℕ) (f : ℕ → ℕ) (k e : ℕ) → n ≤ k → getD (put d n f) k e ≡ getD d k e
+unfolding put
+getD-put-rest [] n f k e l = refl
+getD-put-rest (x ∷ d) zero f k e l = refl
+getD-put-rest (x ∷ d) (suc n) f zero e l = absurd (not-suc-le-zero l)
+getD-put-rest (x ∷ d) (suc n) f (suc k) e l = getD-put-rest d n (λ j. f (suc j)) k e (le-of-suc-le-suc l)
+
+pub getD-put-front : (d : List ℕ) (n : ℕ) (f : ℕ → ℕ) (k e : ℕ) → k < n → k < length d → getD (put d n f) k e ≡ f k
+unfolding put
+getD-put-front [] n f k e l m = absurd (not-suc-le-zero m)
+getD-put-front (x ∷ d) zero f k e l m = absurd (not-suc-le-zero l)
+getD-put-front (x ∷ d) (suc n) f zero e l m = refl
+getD-put-front (x ∷ d) (suc n) f (suc k) e l m =
+    getD-put-front d n (λ j. f (suc j)) k e (le-of-suc-le-suc l) (le-of-suc-le-suc m)
+
+-- only what f says below n counts
+pub put-ext : (d : List ℕ) (n : ℕ) (f g : ℕ → ℕ) → ((k : ℕ) → k < n → f k ≡ g k) → put d n f ≡ put d n g
+unfolding put
+put-ext [] n f g h = refl
+put-ext (x ∷ d) zero f g h = refl
+put-ext (x ∷ d) (suc n) f g h =
+    ap₂ (λ (a : ℕ) (t : List ℕ). a ∷ t) (h 0 (omega arith))
+    (put-ext d n (λ k. f (suc k)) (λ k. g (suc k)) (λ k l. h (suc k) (suc-le-suc l)))
+
+-- ---- a list of blocks
+
+-- f 0, f 1, .., f (n - 1), one after the other
+unfoldable pub cat {ℓ} : {A : Type ℓ} → ℕ → (ℕ → List A) → List A
+cat zero f = []
+cat (suc n) f = cat n f ++ f n
+
+pub cat-none {ℓ} : {A : Type ℓ} (f : ℕ → List A) → cat 0 f ≡ []
+unfolding cat
+cat-none f = refl
+
+pub cat-more {ℓ} : {A : Type ℓ} (n : ℕ) (f : ℕ → List A) → cat (n + 1) f ≡ cat n f ++ f n
+unfolding cat
+cat-more n f = rw add-one
+
+pub cat-ext {ℓ} : {A : Type ℓ} (n : ℕ) (f g : ℕ → List A) → ((k : ℕ) → k < n → f k ≡ g k) → cat n f ≡ cat n g
+unfolding cat
+cat-ext zero f g h = refl
+cat-ext (suc n) f g h = rw (cat-ext n f g (λ k l. h k (omega arith)), h n (omega arith))
+
+-- blocks of one length c
+module _ {ℓ} {A : Type ℓ} (c : ℕ) where
+  pub length-cat : (n : ℕ) (f : ℕ → List A) → ((k : ℕ) → k < n → length (f k) ≡ c) → length (cat n f) ≡ n * c
+  unfolding cat
+  length-cat zero f e = omega arith
+  length-cat (suc n) f e =
+      omega (arith, length-append (cat n f) (f n), length-cat n f (λ k l. e k (omega arith)), e n (omega arith), suc-mul n c)
+
+  -- the element j of block k
+  pub getD-cat : (n : ℕ) (f : ℕ → List A) → ((k : ℕ) → k < n → length (f k) ≡ c)
+      → (k j : ℕ) (d : A) → k < n → j < c → getD (cat n f) (k * c + j) d ≡ getD (f k) j d
+  unfolding cat
+  getD-cat zero f e k j d h l = absurd (omega arith)
+  getD-cat (suc n) f e k j d h l =
+      let size : length (cat n f) ≡ n * c = length-cat n f (λ i u. e i (omega arith)) in
+      cases-suc k n h
+      (λ u. List·getD-append (cat n f) (f n) d (k * c + j) (rw size (lib.Arith.digits-lt u l)) ∙ getD-cat n f (λ i v. e i (omega arith)) k j d u l)
+      (λ u. rw (u, ← size) (getD-append-add (cat n f) (f n) j d))
+
+-- ---- stores one after the other: `sets d at xs` is d with xs stored from index at on
+
+pub sets-append {ℓ} : {A : Type ℓ} (d : List A) (at : ℕ) (xs ys : List A) → sets (sets d at xs) (at + length xs) ys ≡ sets d at (xs ++ ys)
+sets-append d at [] ys = rw add-zero
+sets-append d at (x ∷ xs) ys = rw (add-suc, ← native.Mathlib.Nat.suc-add) (sets-append (set d at x) (suc at) xs ys)
+
+pub sets-one {ℓ} : {A : Type ℓ} (d : List A) (at : ℕ) (x : A) → set d at x ≡ sets d at (x ∷ [])
+sets-one d at x = refl
+
+-- from index 0: the new elements, then the old rest
+pub sets-front {ℓ} : {A : Type ℓ} (d xs : List A) → length xs ≤ length d → sets d 0 xs ≡ xs ++ drop (length xs) d
+sets-front d xs h = sets-eq xs d 0 (omega arith) ∙ rw zero-add
