@@ -1,3 +1,8 @@
+-- What every format and table above shares.
 pub mod Tests
 pub mod Bounded
 pub mod Lists
+pub mod Numbers
+pub mod Cursor
+pub mod Limits
+pub mod Layout

@@ -1,8 +1,6 @@
-// What every format and table above shares.
-ghost use mathlib.Core.Path.{_≡_};
-
-pub fn zero() -> u64
-    ensures { λ r. ⌜ r ≡ 0 ⌝ }
-{
-    0
-}
+// What every format and table above shares: clearing, numbers, records, bounds, and the guard table's layout.
+pub mod clear;
+pub mod cursor;
+pub mod layout;
+pub mod limits;
+pub mod numbers;

@@ -1,0 +1,61 @@
+-- The sizes that the formats share, each said once, and the bounds on lines and horizon (document 01, 'Sheet and tables').
+-- Assumes nothing.
+use mathlib.Core.Path.{_≡_, sym, _∙_}
+use mathlib.Core.Bool.{Bool, true, _&&_, _||_}
+use Prim.Native.Nat.{ℕ, _+_, _*_, _^_, _≤_}
+use native.Mathlib.Omega.{arith}
+use lib.Dec.{leb, eqb}
+use lib.Pow.{pow-mono}
+use borrow.Author.Tests.{leb-true, ne-eqb, eqb-true}
+use Rattle.records.specs.Tests.{and-left, and-right, or-not, or-cases}
+
+-- product states, and so the states of a table
+abbrev pub maxStates : ℕ
+maxStates = 256
+
+-- steps of a run
+abbrev pub maxSteps : ℕ
+maxSteps = 1_000_000
+
+-- the bounds on the mode, the guard's input lines and its output lines
+unfoldable pub linesOk : ℕ → ℕ → ℕ → Bool
+linesOk mode inputs outputs =
+    leb mode 1
+    && (leb inputs 4 && (leb 1 outputs && (leb outputs 3 && (leb (inputs + outputs) 6 && (eqb mode 0 || leb outputs inputs)))))
+
+-- the bounds on the horizon H
+unfoldable pub horizonOk : ℕ → ℕ → Bool
+horizonOk inputs horizon = leb horizon 24 && leb (inputs * horizon) 24
+
+-- what they tell
+pub record Lines (mode inputs outputs : ℕ) : Type 0 where
+  pub mode-is : mode ≤ 1
+  pub inputs-most : inputs ≤ 4
+  pub outputs-least : 1 ≤ outputs
+  pub outputs-most : outputs ≤ 3
+  pub lines-most : inputs + outputs ≤ 6
+  pub shield : mode ≡ 1 → outputs ≤ inputs
+
+pub lines-facts : (mode inputs outputs : ℕ) → linesOk mode inputs outputs ≡ true → Lines mode inputs outputs
+unfolding linesOk
+lines-facts m i o e =
+    record {
+      mode-is = leb-true m 1 (search (and-left, and-right));
+      inputs-most = leb-true i 4 (search (and-left, and-right));
+      outputs-least = leb-true 1 o (search (and-left, and-right));
+      outputs-most = leb-true o 3 (search (and-left, and-right) depth 9);
+      lines-most = leb-true (i + o) 6 (search (and-left, and-right) depth 9);
+      shield = λ q. leb-true o i (or-not (eqb m 0) (leb o i) (search (and-left, and-right) depth 9) (ne-eqb m 0 (λ z. omega arith)));
+    }
+
+pub record Horizon (inputs horizon : ℕ) : Type 0 where
+  pub most : horizon ≤ 24
+  pub product-most : inputs * horizon ≤ 24
+
+pub horizon-facts : (inputs horizon : ℕ) → horizonOk inputs horizon ≡ true → Horizon inputs horizon
+unfolding horizonOk
+horizon-facts i h e =
+    record {
+      most = leb-true h 24 (search (and-left, and-right));
+      product-most = leb-true (i * h) 24 (search (and-left, and-right));
+    }
