@@ -1,0 +1,2 @@
+// The sheet: its records read, judged and laid out.
+pub mod layout;
