@@ -1,0 +1,2 @@
+// Product states: one step of a tuple, and the states numbered as first met.
+pub mod step;
