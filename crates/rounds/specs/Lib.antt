@@ -1,0 +1,2 @@
+-- The rounds that drop lost states, over a table of steps.
+pub mod Rounds
