@@ -5,5 +5,15 @@ pub mod Survival
 pub mod History
 pub mod Supervisor
 pub mod Plans
+pub mod Absolute
+pub mod Choice
+pub mod Rounds
+pub mod Value
+pub mod Pigeonhole
+pub mod Numbering
+pub mod Reachable
 pub mod Book
 pub mod Machine
+pub mod Simulation
+pub mod Guard
+pub mod Example
