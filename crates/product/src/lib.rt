@@ -1,2 +1,1 @@
-// Product states: one step of a tuple, and the states numbered as first met.
-pub mod step;
+// Product states.

@@ -1,0 +1,2 @@
+// The maximally permissive supervisor of a sheet, as a table.
+pub mod make;
