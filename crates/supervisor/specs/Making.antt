@@ -1,5 +1,5 @@
 -- What every maker of a table promises, for every sheet, result and work memory: refusals by document 01's numbers in its
--- order, figures, result bytes, and when 7, 8 and a table are answered. `table d` is the table of a sheet, `states d` the
+-- order, figures, result bytes, and when 7, 8 and a table are answered. `table d` is the table of a sheet, `stateCounts d` the
 -- number of its states.
 -- Assumes nothing.
 use mathlib.Core.Path.{_≡_}
@@ -56,16 +56,16 @@ makingNumber table work s room =
 -- ---- the promise: `work` says that the work memory is long enough, `before` and `after` are the result memory
 
 -- the answer and the result by the model
-pub record Answers (table : Decoded → List ℕ) (states : Decoded → ℕ) (work : Bool) (s before : List ℕ) (r : Made) (after : List ℕ) : Type 0 where
+pub record Answers (table : Decoded → List ℕ) (stateCounts : Decoded → ℕ) (work : Bool) (s before : List ℕ) (r : Made) (after : List ℕ) : Type 0 where
   pub number : madeNumber r ≡ makingNumber table work s (length before)
   pub size : madeLength r ≡ cond (eqb (madeNumber r) 0) (length (table (sheetOf s))) 0
-  pub states : madeStates r ≡ cond (eqb (madeNumber r) 0) (states (sheetOf s)) 0
+  pub states : madeStates r ≡ cond (eqb (madeNumber r) 0) (stateCounts (sheetOf s)) 0
   -- the table, then the old rest; on a refusal the old bytes
   pub bytes : after ≡ cond (eqb (madeNumber r) 0) (sets before 0 (table (sheetOf s))) before
 
 -- and what the refusals mean
-pub record Makes (table : Decoded → List ℕ) (states : Decoded → ℕ) (work : Bool) (s before : List ℕ) (r : Made) (after : List ℕ) : Type 0 where
-  pub answers : Answers table states work s before r after
+pub record Makes (table : Decoded → List ℕ) (stateCounts : Decoded → ℕ) (work : Bool) (s before : List ℕ) (r : Made) (after : List ℕ) : Type 0 where
+  pub answers : Answers table stateCounts work s before r after
   -- where none of 10 and 1 to 6 applies: 7 exactly if there are too many product states
   pub too-many : work ≡ true → sheetNumber s ≡ 0 → (madeNumber r ≡ 7) ↔ TooMany (sheetOf s)
   -- where 7 does not apply either: 8 exactly if the sheet is unrealizable
