@@ -2,5 +2,6 @@
 -- what this one does (Promises).
 pub mod Meaning
 pub mod Table
+pub mod Solve
 pub mod Making
 pub mod Promises

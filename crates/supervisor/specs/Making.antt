@@ -53,6 +53,13 @@ unfoldable pub makingNumber : (Decoded → List ℕ) → Bool → List ℕ → �
 makingNumber table work s room =
     cond work (firstNumber (sheetNumber s) (tableNumber (sheetOf s) (length (table (sheetOf s))) room)) 10
 
+-- for a sheet in bounds: the answer and the result by the model
+pub record Judges (table : Decoded → List ℕ) (stateCounts : Decoded → ℕ) (d : Decoded) (before : List ℕ) (r : Made) (after : List ℕ) : Type 0 where
+  pub number : madeNumber r ≡ tableNumber d (length (table d)) (length before)
+  pub size : madeLength r ≡ cond (eqb (madeNumber r) 0) (length (table d)) 0
+  pub states : madeStates r ≡ cond (eqb (madeNumber r) 0) (stateCounts d) 0
+  pub bytes : after ≡ cond (eqb (madeNumber r) 0) (sets before 0 (table d)) before
+
 -- ---- the promise: `work` says that the work memory is long enough, `before` and `after` are the result memory
 
 -- the answer and the result by the model
