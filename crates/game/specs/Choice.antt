@@ -1,6 +1,6 @@
 -- Of the numbers below n that pass a test, the one with the largest score and, among those, with the largest rank.
 -- Assumes nothing.
-use mathlib.Core.Path.{_≡_, refl, sym, ap, _∙_}
+use mathlib.Core.Path.{_≡_, refl, sym, ap}
 use mathlib.Core.Bool.{Bool, true, false, _&&_, _||_, cond}
 use mathlib.Core.Option.{Option, none, some, Option·getD}
 use Prim.Native.Nat.{ℕ, zero, suc, _+_, _≤_, _<_}
@@ -37,11 +37,12 @@ unfoldable pub choose : ℕ → (ℕ → Bool) → (ℕ → ℕ) → (ℕ → �
 choose n p score rank = Option·getD (leader n p score rank) 0
 
 module _ (p : ℕ → Bool) (score rank : ℕ → ℕ) where
-  -- as a loop that counts up finds it
+  -- as a loop that counts up finds it: before the first candidate
   pub leader-none : leader 0 p score rank ≡ none
   unfolding leader
   leader-none = refl
 
+  -- and with one candidate more
   pub leader-more : (n : ℕ)
       → leader (n + 1) p score rank ≡ cond (p n) (some (against score rank n (leader n p score rank))) (leader n p score rank)
   unfolding leader
@@ -162,6 +163,7 @@ module _ (p q : ℕ → Bool) (f g rank : ℕ → ℕ) where
           ap {B = Option ℕ} some (against-cong n (leader n p f rank) (h n (omega arith) t) (λ o k. h o (omega arith)) (found p f rank n))
       go false t = refl
 
+  -- so the choice is the same
   pub choose-cong : (n : ℕ) → ((o : ℕ) → o < n → p o ≡ q o) → ((o : ℕ) → o < n → p o ≡ true → f o ≡ g o)
       → choose n p f rank ≡ choose n q g rank
   unfolding choose

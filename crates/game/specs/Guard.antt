@@ -1,17 +1,16 @@
 -- A guard's states, numbered as the chosen outputs meet them, its table, and the whole claim: a board that runs the table agrees
 -- with the run book.
 -- Assumes nothing.
-use mathlib.Core.Path.{_≡_, refl, sym, ap, _∙_, subst}
+use mathlib.Core.Path.{_≡_, refl, sym, _∙_, subst}
 use mathlib.Core.Logic.{_↔_}
 use mathlib.Core.Bool.{Bool, true, false}
-use mathlib.Core.List.{List, [], _∷_}
-use Prim.Native.Nat.{ℕ, _+_, _≤_, _<_}
-use native.Mathlib.Omega.{arith}
+use mathlib.Core.List.{List}
+use Prim.Native.Nat.{ℕ, _≤_, _<_}
 use lib.ListN.{length, getD}
 use Rattle.game.specs.History.{Step}
 use Rattle.game.specs.Survival.{Survives, Allowed}
 use Rattle.game.specs.Plans.{Move}
-use Rattle.game.specs.Rounds.{Quiet, Good, may, keptAfter, kept-iff, allowed-iff, live, stays}
+use Rattle.game.specs.Rounds.{Quiet, Good, may, kept-iff, allowed-iff, live, stays}
 use Rattle.game.specs.Value.{choice, choice-good, choice-move, move-only}
 use Rattle.game.specs.Numbering.{Reach, Each, Has, find, find-at, explore, explore-all, explore-least, explore-reached, explore-start}
 use Rattle.game.specs.Reachable.{Reachable, reachable-closed, states, states-exactly}
@@ -26,6 +25,7 @@ module _ (S : Type 0) (same : S → S → Bool) (I : ℕ) (step : S → ℕ → 
   abbrev pub always : S → ℕ → Bool
   always s i = true
 
+  -- where it leads
   abbrev pub picked : S → ℕ → S
   picked s i = step s i (pick s i)
 

@@ -31,6 +31,7 @@ squeeze-inj f n m a b i na nb = go (eqb (f a) m) (eqb (f b) m) refl refl
     go false true p q e = absurd (na e)
     go false false p q e = i e
 
+-- the pigeonhole principle
 pub pigeonhole : (n m : ℕ) (f : ℕ → ℕ) → ((j : ℕ) → j < n → f j < m)
     → ((a b : ℕ) → a < n → b < n → f a ≡ f b → a ≡ b) → n ≤ m
 pigeonhole zero m f l i = omega arith

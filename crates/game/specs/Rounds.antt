@@ -9,15 +9,15 @@ use native.Mathlib.Nat.{add-zero, add-suc}
 use native.Mathlib.Decide.{decLt}
 use native.Mathlib.Omega.{arith}
 use lib.Dec.{eqb}
-use borrow.Author.Tests.{eqb-true, eqb-false, eq-eqb, ne-eqb, not-true, not-false}
+use borrow.Author.Tests.{eq-eqb, ne-eqb}
 use Rattle.records.specs.Tests.{both-ways, by-test, and-left, and-right, and-both, and-not}
 use Rattle.records.specs.Bounded.{all, any, all-at, all-of, all-not, any-at, any-of, any-not}
-use Rattle.records.specs.Bounded.{count, count-le, count-mono, count-tight}
+use Rattle.records.specs.Bounded.{count, count-le, count-tight}
 use Rattle.game.specs.Words.{Below, Word}
-use Rattle.game.specs.Strategy.{Along}
+use Rattle.game.specs.Strategy.{Along, after}
 use Rattle.game.specs.Survival.{Unbroken, Survives, Allowed, Lasts, Forces}
 use Rattle.game.specs.Survival.{survives-lasts, survives-less, lasts-less, forces-more, forces-lasts}
-use Rattle.game.specs.Choice.{choose, choose-leads}
+use Rattle.game.specs.Choice.{Leads, choose, choose-leads}
 
 module _ (S : Type 0) (I O : ℕ) (step : S → ℕ → ℕ → S) (ok : S → ℕ → ℕ → Bool) where
   -- ---- definitions
@@ -49,11 +49,9 @@ module _ (S : Type 0) (I O : ℕ) (step : S → ℕ → ℕ → S) (ok : S → �
     pub inside : In s
     pub kept : keptAfter r s ≡ true
 
-  -- the strategy that answers each input with an output that may be given
-  unfoldable pub hold : ℕ → S → List ℕ → ℕ
-  hold r s [] = 0
-  hold r s (i ∷ []) = choose O (may r s i) (λ o. 0) (λ o. o)
-  hold r s (i ∷ j ∷ h) = hold r (step s i (choose O (may r s i) (λ o. 0) (λ o. o))) (j ∷ h)
+  -- how many of the states name 0, .., name (N - 1) are kept after r rounds
+  abbrev pub keptCount : ℕ → (ℕ → S) → ℕ → ℕ
+  keptCount N name r = count N (λ k. keptAfter r (name k))
 
   -- ---- what a round finds
 
@@ -65,6 +63,7 @@ module _ (S : Type 0) (I O : ℕ) (step : S → ℕ → ℕ → S) (ok : S → �
       let x = any-at O _ (all-at I _ e i h) in
       (x .0, x .1, and-left (ok s i (x .0)) _ (x .2), and-right (ok s i (x .0)) _ (x .2))
 
+  -- and when it holds
   pub keeps-of : (kept : S → Bool) (s : S)
       → ((i : ℕ) → i < I → (o : ℕ) × (o < O) × (ok s i o ≡ true) × (kept (step s i o) ≡ true)) → keeps kept s ≡ true
   unfolding keeps
@@ -144,7 +143,7 @@ module _ (S : Type 0) (I O : ℕ) (step : S → ℕ → ℕ → S) (ok : S → �
       go true h = omega arith
       go false h = omega arith
 
-  -- while round r + 1 goes on, "kept after r rounds" can be read off an entry of before the round and off one of after it
+  -- while round r + 1 goes on, "kept after r rounds" is read off an entry that it has not been at: 0, or r + 1
   pub kept-before : (r : ℕ) (s : S) → keptAfter r s ≡ eqb (droppedBy r s) 0 || eqb (droppedBy r s) (suc r)
   kept-before r s =
       rw (kept-dropped r s, ne-eqb (droppedBy r s) (suc r) (λ e. omega (arith, dropped-le r s))) (plain (eqb (droppedBy r s) 0))
@@ -153,6 +152,7 @@ module _ (S : Type 0) (I O : ℕ) (step : S → ℕ → ℕ → S) (ok : S → �
       plain true = refl
       plain false = refl
 
+  -- the same, of an entry that the round has been at
   pub kept-during : (r : ℕ) (s : S) → keptAfter r s ≡ eqb (droppedBy (suc r) s) 0 || eqb (droppedBy (suc r) s) (suc r)
   kept-during r s = rw (dropped-more r s) (go (keptAfter r s) (keeps (keptAfter r) s) refl)
     where
@@ -229,6 +229,7 @@ module _ (S : Type 0) (I O : ℕ) (step : S → ℕ → ℕ → S) (ok : S → �
       quiet-on zero = subst (Quiet In) (sym (add-zero r)) quiet
       quiet-on (suc d) = subst (Quiet In) (sym (add-suc r d)) (next-quiet (r + d) (quiet-on d))
 
+      -- who is kept stays kept
       pub kept-on : (s : S) → In s → keptAfter r s ≡ true → (d : ℕ) → keptAfter (r + d) s ≡ true
       kept-on s g e zero = rw add-zero e
       kept-on s g e (suc d) = rw add-suc (quiet-on d s g (kept-on s g e d))
@@ -274,52 +275,78 @@ module _ (S : Type 0) (I O : ℕ) (step : S → ℕ → ℕ → S) (ok : S → �
       stays s i o g hi ho e =
           record { inside = closed s i o (g .inside) hi ho (and-left _ _ e); kept = and-right (ok s i o) _ e }
 
-      hold-along : (s : S) → Good In r s → (w : List ℕ) → Below I w → Along S O step (Unbroken S I O step ok) (hold r s) s w
+      -- the strategy that answers each input with an output that may be given
+      safe : S → ℕ → ℕ
+      safe s i = choose O (may r s i) (λ o. 0) (λ o. o)
+
+      hold : S → List ℕ → ℕ
+      hold s [] = 0
+      hold s (i ∷ []) = safe s i
+      hold s (i ∷ j ∷ h) = hold (step s i (safe s i)) (j ∷ h)
+
+      safe-leads : (s : S) (i : ℕ) → Good In r s → i < I → Leads O (may r s i) (λ o. 0) (λ o. o) (safe s i)
+      unfolding safe
+      safe-leads s i g h = let x = live s i g h in choose-leads (may r s i) (λ o. 0) (λ o. o) O (x .0) (x .1) (x .2)
+
+      hold-on : (s : S) (i : ℕ) (w : List ℕ)
+          → Along S O step (Unbroken S I O step ok) (hold (step s i (safe s i))) (step s i (safe s i)) w
+          → Along S O step (Unbroken S I O step ok) (after i (hold s)) (step s i (safe s i)) w
+      unfolding hold
+      hold-on s i [] a = tt
+      hold-on s i (j ∷ w) a = a
+
+      hold-along : (s : S) → Good In r s → (w : List ℕ) → Below I w → Along S O step (Unbroken S I O step ok) (hold s) s w
       unfolding hold may
       hold-along s g [] b = tt
       hold-along s g (i ∷ w) b =
-          let x = live s i g (b .0) in
-          let l = choose-leads (may r s i) (λ o. 0) (λ o. o) O (x .0) (x .1) (x .2) in
-          let n : S = step s i (choose O (may r s i) (λ o. 0) (λ o. o)) in
-          (l .low, and-left _ _ (l .pass), further w (hold-along n (stays s i _ g (b .0) (l .low) (l .pass)) w (b .1)))
-        where
-          further : (w : List ℕ) → Along S O step (Unbroken S I O step ok) (hold r (step s i (hold r s (i ∷ [])))) (step s i (hold r s (i ∷ []))) w
-              → Along S O step (Unbroken S I O step ok) (λ h. hold r s (i ∷ h)) (step s i (hold r s (i ∷ []))) w
-          further [] a = tt
-          further (j ∷ v) a = a
+          let l = safe-leads s i g (b .0) in
+          let onward : Good In r (step s i (safe s i)) = stays s i (safe s i) g (b .0) (l .low) (l .pass) in
+          (l .low, and-left _ _ (l .pass), hold-on s i w (hold-along (step s i (safe s i)) onward w (b .1)))
 
       -- from a good state one strategy survives for ever
       pub survives-for-ever : (s : S) → Good In r s
           → (f : List ℕ → ℕ) × ((n : ℕ) (w : List ℕ) → Word I n w → Along S O step (Unbroken S I O step ok) f s w)
-      survives-for-ever s g = (hold r s, λ n w v. hold-along s g w (v .below))
+      survives-for-ever s g = (hold s, λ n w v. hold-along s g w (v .below))
 
-  -- ---- the rounds stop: the states of In are among name 0, .., name (N - 1)
+  -- ---- the rounds stop, where the states of In are among name 0, .., name (N - 1)
 
-  module _ (In : S → Type 0) (N : ℕ) (name : ℕ → S) (named : (s : S) → In s → (k : ℕ) × (k < N) × (name k ≡ s)) where
-    -- how many numbered states are kept after r rounds
-    abbrev pub keptCount : ℕ → ℕ
-    keptCount r = count N (λ k. keptAfter r (name k))
+  module _ (N : ℕ) (name : ℕ → S) where
+    -- a round that leaves no fewer has dropped none
+    count-stays : (r : ℕ) → keptCount N name r ≤ keptCount N name (suc r)
+        → (k : ℕ) → k < N → keptAfter r (name k) ≡ true → keptAfter (suc r) (name k) ≡ true
+    count-stays r =
+        count-tight N (λ k. keptAfter (suc r) (name k)) (λ k. keptAfter r (name k))
+        (λ k l e. kept-less r (suc r) (name k) (omega arith) e)
 
-    -- a round that drops no numbered state is quiet
-    pub quiet-named : (r : ℕ) → ((k : ℕ) → k < N → keptAfter r (name k) ≡ true → keptAfter (suc r) (name k) ≡ true) → Quiet In r
-    quiet-named r h s g e =
-        let x = named s g in rw (x .2) at (h (x .0) (x .1) (rw (x .2) e))
-
-    -- a round after which no fewer are kept is quiet
-    pub quiet-count : (r : ℕ) → keptCount r ≤ keptCount (suc r) → Quiet In r
-    quiet-count r h =
-        quiet-named r
-        (count-tight N (λ k. keptAfter (suc r) (name k)) (λ k. keptAfter r (name k))
-        (λ k l e. kept-less r (suc r) (name k) (omega arith) e) h)
-
-    quiet-within : (d r : ℕ) → keptCount r ≤ d → (q : ℕ) × (q ≤ r + d) × Quiet In q
-    quiet-within zero r h = (r, omega arith, quiet-count r (omega arith))
-    quiet-within (suc d) r h =
-        elim (decLt (keptCount (suc r)) (keptCount r)) [
-          | yes k ↦ let x = quiet-within d (suc r) (omega arith) in (x .0, omega (arith, x .1), x .2)
-          | no k ↦ (r, omega arith, quiet-count r (omega arith))
+    -- a round that drops one leaves fewer
+    pub count-falls : (r k : ℕ) → k < N → keptAfter r (name k) ≡ true → keptAfter (suc r) (name k) ≡ false
+        → keptCount N name (suc r) < keptCount N name r
+    count-falls r k h e f =
+        elim (decLt (keptCount N name (suc r)) (keptCount N name r)) [
+          | yes u ↦ u
+          | no u ↦ both-ways (count-stays r (omega arith) k h e) f
         ]
 
-    -- a quiet round comes after at most N others
-    pub stops : (q : ℕ) × (q ≤ N) × Quiet In q
-    stops = let x = quiet-within N 0 (count-le N _) in (x .0, omega (arith, x .1), x .2)
+    module _ (In : S → Type 0) (named : (s : S) → In s → (k : ℕ) × (k < N) × (name k ≡ s)) where
+      -- a round that drops none of them is quiet
+      pub quiet-named : (r : ℕ) → ((k : ℕ) → k < N → keptAfter r (name k) ≡ true → keptAfter (suc r) (name k) ≡ true)
+          → Quiet In r
+      quiet-named r h s g e = let x = named s g in rw (x .2) at (h (x .0) (x .1) (rw (x .2) e))
+
+      -- so is one that changes none of their entries
+      pub quiet-entries : (r : ℕ) → ((k : ℕ) → k < N → droppedBy (suc r) (name k) ≡ droppedBy r (name k)) → Quiet In r
+      quiet-entries r same =
+          quiet-named r (λ k h e.
+          kept-dropped (suc r) (name k) ∙ ap (λ (d : ℕ). eqb d 0) (same k h) ∙ sym (kept-dropped r (name k)) ∙ e)
+
+      quiet-within : (d r : ℕ) → keptCount N name r ≤ d → (q : ℕ) × (q ≤ r + d) × Quiet In q
+      quiet-within zero r h = (r, omega arith, quiet-named r (count-stays r (omega arith)))
+      quiet-within (suc d) r h =
+          elim (decLt (keptCount N name (suc r)) (keptCount N name r)) [
+            | yes k ↦ let x = quiet-within d (suc r) (omega arith) in (x .0, omega (arith, x .1), x .2)
+            | no k ↦ (r, omega arith, quiet-named r (count-stays r (omega arith)))
+          ]
+
+      -- a quiet round comes after at most N others
+      pub stops : (q : ℕ) × (q ≤ N) × Quiet In q
+      stops = let x = quiet-within N 0 (count-le N _) in (x .0, omega (arith, x .1), x .2)

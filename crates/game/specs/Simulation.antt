@@ -1,99 +1,19 @@
 -- A board that runs a table agrees with the run book, if the table's places stand for states and its entries for their moves.
 -- Assumes nothing.
-use mathlib.Core.Path.{_≡_, refl, sym, ap, ap₂, _∙_, subst}
+use mathlib.Core.Path.{_≡_, refl, sym, ap, _∙_, subst}
 use mathlib.Core.Bool.{Bool, true, false}
 use mathlib.Core.Option.{Option, none, some}
 use mathlib.Core.List.{List, [], _∷_, map}
-use Prim.Native.Nat.{ℕ, zero, suc, _+_, _≤_, _<_}
+use Prim.Native.Nat.{ℕ, _<_}
 use native.Mathlib.Numerals.{add-one}
 use native.Mathlib.Omega.{arith}
 use lib.Dec.{ltb}
 use lib.ListN.{length, getD}
 use borrow.Author.Tests.{ltb-true, ltb-false}
 use Rattle.game.specs.History.{Step, reached}
-use Rattle.game.specs.Book.{Call, load, step, rewind, unload, Answer, refuse, give, Entry, deviations, Steps, Writes, Keeps, holding, Lent}
+use Rattle.game.specs.Book.{Call, load, step, rewind, unload, Answer, refuse, Entry, deviations, Steps, Writes, Keeps, holding, Lent}
+use Rattle.game.specs.Answers.{holds, writes-holding, keeps-only}
 use Rattle.game.specs.Machine.{Held, replies, Shown, Agrees, RunsTable}
-
--- ---- whether the book holds a run
-
--- does it, with this run?
-abbrev pub holds : Option (List Step) → Bool
-holds none = false
-holds (some h) = true
-
--- does it after these calls? A function of the calls alone
-abbrev pub holdingAfter : {T : Type 0} → Bool → List (Call T) → Bool
-holdingAfter h [] = h
-holdingAfter h (c ∷ cs) = holdingAfter (holding h c) cs
-
--- the run that the last entry leaves in a book that began with p
-abbrev pub finally : Option (List Step) → List Entry → Option (List Step)
-finally p [] = p
-finally p (e ∷ es) = finally (e .run) es
-
-module _ (T S : Type 0) (I limit : ℕ) (next : S → ℕ → ℕ → S) (start : S) (Moves : S → ℕ → ℕ → Type 0) where
-  steps-holding : (room letter : Bool) (h : List Step) (i : ℕ) (a : Answer) (q : Option (List Step))
-      → Steps T S I limit next start Moves room letter h i a q → holds q ≡ true
-  steps-holding false letter h i a q w = rw (w .1)
-  steps-holding true false h i a q w = rw (w .1)
-  steps-holding true true h i a q w = rw (w .3)
-
-  writes-holding : (p : Option (List Step)) (c : Call T) (a : Answer) (q : Option (List Step))
-      → Writes T S I limit next start Moves p c a q → holds q ≡ holding (holds p) c
-  writes-holding none (load t) a q w = rw (w .1)
-  writes-holding none (step t i) a q w = rw (w .1)
-  writes-holding none rewind a q w = rw (w .1)
-  writes-holding none unload a q w = rw (w .1)
-  writes-holding (some h) (load t) a q w = rw (w .1)
-  writes-holding (some h) (step t i) a q w = steps-holding (ltb (length h) limit) (ltb i I) h i a q w
-  writes-holding (some h) rewind a q w = rw (w .1)
-  writes-holding (some h) unload a q w = rw (w .1)
-
-  -- however the book is kept, the calls alone say whether it then holds a run
-  pub keeps-holding : (p : Option (List Step)) (cs : List (Call T)) (es : List Entry)
-      → Keeps T S I limit next start Moves p cs es → holds (finally p es) ≡ holdingAfter (holds p) cs
-  keeps-holding p [] [] k = refl
-  keeps-holding p [] (e ∷ es) k = absurd k
-  keeps-holding p (c ∷ cs) [] k = absurd k
-  keeps-holding p (c ∷ cs) (e ∷ es) k =
-      keeps-holding (e .run) cs es (k .1)
-      ∙ ap (λ (h : Bool). holdingAfter h cs) (writes-holding p c (e .answer) (e .run) (k .0))
-
-  -- ---- the book can be kept in one way, where the moves are settled
-
-  module _
-      (Good : S → Type 0)
-      (good-next : (s : S) (i o : ℕ) → Good s → i < I → Moves s i o → Good (next s i o))
-      (settled : (s : S) (i o q : ℕ) → Good s → i < I → Moves s i o → Moves s i q → o ≡ q)
-    where
-      -- the run of a book has led to a good state
-      abbrev pub GoodRun : Option (List Step) → Type 0
-      GoodRun none = Unit {0}
-      GoodRun (some h) = Good (reached S next start h)
-
-      steps-once : (room letter : Bool) (h : List Step) (i : ℕ) (a b : Answer) (q r : Option (List Step))
-          → ltb i I ≡ letter → Good (reached S next start h)
-          → Steps T S I limit next start Moves room letter h i a q → Steps T S I limit next start Moves room letter h i b r
-          → (a ≡ b) × (q ≡ r)
-      steps-once false letter h i a b q r e g u v = (u .0 ∙ sym (v .0), u .1 ∙ sym (v .1))
-      steps-once true false h i a b q r e g u v = (u .0 ∙ sym (v .0), u .1 ∙ sym (v .1))
-      steps-once true true h i a b q r e g u v =
-          let x : u .0 ≡ v .0 = settled _ i (u .0) (v .0) g (ltb-true i I e) (u .1) (v .1) in (
-            u .2 ∙ ap give x ∙ sym (v .2),
-            u .3 ∙ ap {B = Option (List Step)} (λ (o : ℕ). some (record { input = i; output = o } ∷ h)) x ∙ sym (v .3),
-          )
-
-      writes-once : (p : Option (List Step)) (c : Call T) (a b : Answer) (q r : Option (List Step)) → GoodRun p
-          → Writes T S I limit next start Moves p c a q → Writes T S I limit next start Moves p c b r → (a ≡ b) × (q ≡ r)
-      writes-once none (load t) a b q r g u v = (u .0 ∙ sym (v .0), u .1 ∙ sym (v .1))
-      writes-once none (step t i) a b q r g u v = (u .0 ∙ sym (v .0), u .1 ∙ sym (v .1))
-      writes-once none rewind a b q r g u v = (u .0 ∙ sym (v .0), u .1 ∙ sym (v .1))
-      writes-once none unload a b q r g u v = (u .0 ∙ sym (v .0), u .1 ∙ sym (v .1))
-      writes-once (some h) (load t) a b q r g u v = (u .0 ∙ sym (v .0), u .1 ∙ sym (v .1))
-      writes-once (some h) (step t i) a b q r g u v =
-          steps-once (ltb (length h) limit) (ltb i I) h i a b q r refl g u v
-      writes-once (some h) rewind a b q r g u v = (u .0 ∙ sym (v .0), u .1 ∙ sym (v .1))
-      writes-once (some h) unload a b q r g u v = (u .0 ∙ sym (v .0), u .1 ∙ sym (v .1))
 
 -- ---- the table
 
@@ -238,59 +158,41 @@ module _
     together b none c r s = empty-call b c r s
     together b (some h) c r s = held-call b h c r s
 
-    good-run : (b : B) (p : Option (List Step)) → InStep b p → GoodRun T S I limit next start Moves Good good-next settled p
-    good-run b none r = tt
-    good-run b (some h) r = r .good
-
     shown : (b : B) (p : Option (List Step)) → InStep b p → Held (Shows b) p
     shown b none r = tt
     shown b (some h) r = shows b (r .place) h (r .stands)
 
-    -- a list of calls: how the book is kept, in this way alone, and what the board says and shows
+    -- a list of calls: how the book is kept, and what the board says and shows
     record Kept (b : B) (p : Option (List Step)) (cs : List (Call T)) : Type 0 where
       entries : List Entry
       kept : Keeps T S I limit next start Moves p cs entries
-      only : (es : List Entry) → Keeps T S I limit next start Moves p cs es → es ≡ entries
       answers : replies T B after says b cs ≡ map (λ (e : Entry). e .answer) entries
-      shows-it : Shown T B after says Shows b cs entries
-
-    kept-more : (b : B) (p : Option (List Step)) (c : Call T) (cs : List (Call T)) → InStep b p → (x : Together b p c)
-        → Kept (after b c) (x .0) cs → Kept b p (c ∷ cs)
-    kept-more b p c cs r x rest =
-        record {
-          entries = record { answer = says b c; run = x .0 } ∷ rest .entries;
-          kept = (x .1, rest .kept);
-          only = single;
-          answers = ap {B = List Answer} (λ (l : List Answer). says b c ∷ l) (rest .answers);
-          shows-it = (shown (after b c) (x .0) (x .2), rest .shows-it);
-        }
-      where
-        single : (es : List Entry) → Keeps T S I limit next start Moves p (c ∷ cs) es
-            → es ≡ record { answer = says b c; run = x .0 } ∷ rest .entries
-        single [] w = absurd w
-        single (e ∷ es) w =
-            let y = writes-once T S I limit next start Moves Good good-next settled p c _ _ _ _ (good-run b p r) (w .0) (x .1) in
-            let same-entry : e ≡ record { answer = says b c; run = x .0 } =
-            ap₂ {C = Entry} (λ (a : Answer) (q : Option (List Step)). record { answer = a; run = q }) (y .0) (y .1) in
-            ap₂ {C = List Entry} (λ (f : Entry) (fs : List Entry). f ∷ fs) same-entry
-            (rest .only es (subst (λ (q : Option (List Step)). Keeps T S I limit next start Moves q cs es) (y .1) (w .1)))
+      shows-runs : Shown T B after says Shows b cs entries
 
     keep : (b : B) (p : Option (List Step)) (cs : List (Call T)) → InStep b p → Lent table (holds p) cs → Kept b p cs
-    keep b p [] r l = record { entries = []; kept = tt; only = none-else; answers = refl; shows-it = tt }
-      where
-        none-else : (es : List Entry) → Keeps T S I limit next start Moves p [] es → es ≡ []
-        none-else [] k = refl
-        none-else (e ∷ es) k = absurd k
+    keep b p [] r l = record { entries = []; kept = tt; answers = refl; shows-runs = tt }
     keep b p (c ∷ cs) r l =
         let m = lent-first table (holds p) c cs l in
         let x : Together b p c = together b p c r (m .0) in
         let lent : Lent table (holds (x .0)) cs =
-        subst (λ (h : Bool). Lent table h cs) (sym (writes-holding T S I limit next start Moves p c (says b c) (x .0) (x .1))) (m .1) in
-        kept-more b p c cs r x (keep (after b c) (x .0) cs (x .2) lent)
+        subst (λ (h : Bool). Lent table h cs) (sym (writes-holding T S I limit next start Moves p c _ (x .0) (x .1))) (m .1) in
+        let rest : Kept (after b c) (x .0) cs = keep (after b c) (x .0) cs (x .2) lent in
+        record {
+          entries = record { answer = says b c; run = x .0 } ∷ rest .entries;
+          kept = (x .1, rest .kept);
+          answers = ap {B = List Answer} (λ (l : List Answer). says b c ∷ l) (rest .answers);
+          shows-runs = (shown (after b c) (x .0) (x .2), rest .shows-runs);
+        }
 
     -- from any board that counts as empty, over any calls that are lent the table where it is read
     pub agrees : (b : B) (cs : List (Call T)) → Empty b → Lent table false cs
         → Agrees T B after says S I limit next start Moves Shows b cs
     agrees b cs e l =
         let k : Kept b none cs = keep b none cs e l in
-        record { entries = k .entries; kept = k .kept; only = k .only; answers = k .answers; shows = k .shows-it }
+        record {
+          entries = k .entries;
+          kept = k .kept;
+          only = λ es u. keeps-only T S I limit next start Moves Good good-start good-next settled none cs es (k .entries) tt u (k .kept);
+          answers = k .answers;
+          shows = k .shows-runs;
+        }

@@ -1,6 +1,6 @@
 -- Supervisors as relations, and the maximally permissive one (document 01, demand 2).
 -- Assumes nothing.
-use mathlib.Core.Path.{_≡_, refl}
+use mathlib.Core.Path.{_≡_}
 use mathlib.Core.Bool.{Bool, true}
 use mathlib.Core.List.{List, [], _∷_}
 use Prim.Native.Nat.{ℕ, zero, suc, _<_}
@@ -67,6 +67,7 @@ module _ (S : Type 0) (I O : ℕ) (step : S → ℕ → ℕ → S) (ok : S → �
           closed s (x .input) (x .output) (permitted-good h (p .2) .inside) (p .0) (a .output) (a .unbroken) in
           record { inside = g; kept = kept-iff S I O step ok In closed r quiet _ g .1 (a .survives) }
 
+      -- the allowed outputs are those of a supervisor
       pub permissive-supervises : Supervises Permissive
       permissive-supervises =
           record {

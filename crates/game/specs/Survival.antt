@@ -1,7 +1,7 @@
 -- The safety game: surviving n inputs, and what is allowed (document 01, demand 2).
 -- A step of s by input i and output o leads to `step s i o`, and is unbroken if `ok s i o` is true.
 -- Assumes nothing.
-use mathlib.Core.Path.{_≡_, refl}
+use mathlib.Core.Path.{_≡_}
 use mathlib.Core.Logic.{_↔_}
 use mathlib.Core.Bool.{Bool, true}
 use mathlib.Core.List.{List, [], _∷_}
@@ -78,6 +78,7 @@ module _ (S : Type 0) (I O : ℕ) (step : S → ℕ → ℕ → S) (ok : S → �
 
   -- ---- fewer inputs
 
+  -- who lasts n inputs lasts fewer
   pub lasts-less : (m n : ℕ) (s : S) → m ≤ n → Lasts n s → Lasts m s
   lasts-less zero n s h l = tt
   lasts-less (suc m) zero s h l = absurd (omega arith)
@@ -100,3 +101,7 @@ module _ (S : Type 0) (I O : ℕ) (step : S → ℕ → ℕ → S) (ok : S → �
   forces-lasts zero s f l = f
   forces-lasts (suc n) s f l =
       let x = l (f .0) (f .1) in forces-lasts n (step s (f .0) (x .0)) (f .2 (x .0) (x .1) (x .2)) (x .3)
+
+  -- nor survives by a strategy
+  pub forces-survives : (n : ℕ) (s : S) → Forces n s → ¬ Survives n s
+  forces-survives n s f p = forces-lasts n s f (moves n s p)

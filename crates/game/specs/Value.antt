@@ -31,10 +31,12 @@ module _ (S : Type 0) (I O : ℕ) (step : S → ℕ → ℕ → S) (may : S → 
   unfoldable pub choice : (ℕ → ℕ) → ℕ → S → ℕ → ℕ
   choice rank H s i = choose O (may s i) (score H s i) rank
 
+  -- with no inputs to come nothing is earned
   pub value-none : (s : S) → value 0 s ≡ 0
   unfolding value
   value-none s = refl
 
+  -- one input more
   pub value-more : (p : ℕ) (s : S) → value (p + 1) s ≡ sum I (λ i. top O (may s i) (score p s i))
   unfolding value score
   value-more p s = rw add-one
@@ -62,6 +64,7 @@ module _ (S : Type 0) (I O : ℕ) (step : S → ℕ → ℕ → S) (may : S → 
           mul-comm I (suc p * W * I ^ p) ∙ mul-assoc (suc p * W) (I ^ p) I ∙ ap (λ (x : ℕ). suc p * W * x) (sym (pow-suc I p)),
         )
 
+    -- and a score at most W for each of H + 1 steps
     pub score-most : (H : ℕ) (s : S) (i o : ℕ) → i < I → o < O → score H s i o ≤ (H + 1) * W * I ^ H
     unfolding score
     score-most H s i o hi ho = rw add-one (one-more H s i o hi ho (value-most H (step s i o)))
@@ -142,6 +145,20 @@ module _ (S : Type 0) (I O : ℕ) (step : S → ℕ → ℕ → S) (may : S → 
             most-value H (after i f) (step s i (first i f)) (plan-good H s i f g h a) (λ w r. a w r .2),
           )
 
+      -- the first moves of best plans
+      module _ (H : ℕ) (s : S) (i : ℕ) (small : i < I) where
+        -- they are outputs
+        pub first-low : (o : ℕ) → FirstMove S I O step Ok reward H s i o → o < O
+        first-low o m = rw (m .2) at (plan-low H s i (m .0) small (m .1 .plan))
+
+        -- each is Ok
+        pub first-ok : (o : ℕ) → FirstMove S I O step Ok reward H s i o → Ok s i o
+        first-ok o m = rw (m .2) at (plan-ok H s i (m .0) small (m .1 .plan))
+
+        -- and leads to a good state
+        pub first-good : Good s → (o : ℕ) → FirstMove S I O step Ok reward H s i o → Good (step s i o)
+        first-good g o m = rw (m .2) at (plan-good H s i (m .0) g small (m .1 .plan))
+
       rewards-firstly : (o : ℕ) (f : List ℕ → ℕ) (s : S) (w : List ℕ) → rewardsOf (firstly o f) s w ≡ rewardsOf f s w
       rewards-firstly o f s [] = refl
       rewards-firstly o f s (i ∷ w) = refl
@@ -217,16 +234,7 @@ module _ (S : Type 0) (I O : ℕ) (step : S → ℕ → ℕ → S) (may : S → 
                 );
               }
 
-          -- the first moves of best plans are below O, Ok, and of no higher rank than one that leads
-          pub first-low : (o : ℕ) → FirstMove S I O step Ok reward H s i o → o < O
-          first-low o m = rw (m .2) at (plan-low H s i (m .0) small (m .1 .plan))
-
-          pub first-ok : (o : ℕ) → FirstMove S I O step Ok reward H s i o → Ok s i o
-          first-ok o m = rw (m .2) at (plan-ok H s i (m .0) small (m .1 .plan))
-
-          pub first-good : (o : ℕ) → FirstMove S I O step Ok reward H s i o → Good (step s i o)
-          first-good o m = rw (m .2) at (plan-good H s i (m .0) good small (m .1 .plan))
-
+          -- the first moves of best plans are of no higher rank than one that leads
           first-under : (o q : ℕ) → Leads O (may s i) (score H s i) rank o → FirstMove S I O step Ok reward H s i q → rank q ≤ rank o
           first-under o q l m = rw (m .2) at (under (m .0) (m .1))
             where
@@ -255,7 +263,7 @@ module _ (S : Type 0) (I O : ℕ) (step : S → ℕ → ℕ → S) (may : S → 
                 let l = choice-leads H s i good small in
                 record {
                   best = choice-first;
-                  highest = λ q m k. omega (arith, first-under _ q l m, follows q _ (first-low q m) (l .low) .1 k);
+                  highest = λ q m k. omega (arith, first-under _ q l m, follows q _ (first-low H s i small q m) (l .low) .1 k);
                 }
 
             -- and, where no two outputs have the same rank, the only one
@@ -264,7 +272,7 @@ module _ (S : Type 0) (I O : ℕ) (step : S → ℕ → ℕ → S) (may : S → 
             move-only inj o m =
                 let c : ℕ = choice rank H s i in
                 let l = choice-leads H s i good small in
-                let low : o < O = first-low o (m .best) in
+                let low : o < O = first-low H s i small o (m .best) in
                 elim (decLt (rank o) (rank c)) [
                   | yes u ↦ absurd (m .highest c choice-first (follows c o (l .low) low .0 u))
                   | no u ↦ inj o c low (l .low) (omega (arith, first-under c o l (m .best)))

@@ -3,7 +3,7 @@
 use mathlib.Core.Path.{_≡_, refl, sym, ap, ap₂, _∙_}
 use mathlib.Core.Logic.{_↔_}
 use mathlib.Core.List.{List, [], _∷_, _++_, map}
-use Prim.Native.Nat.{ℕ, zero, suc, _+_, _*_, _/_, _%_, _^_, _≤_, _<_}
+use Prim.Native.Nat.{ℕ, zero, suc, _+_, _*_, _/_, _%_, _^_, _<_}
 use native.Mathlib.Nat.{pow-zero, pow-suc, mul-comm, mul-suc, mul-zero, mod-lt, div-lt-iff-lt-mul, div-add-mod}
 use native.Mathlib.Omega.{arith}
 use lib.Arith.{digits-lt}
@@ -52,6 +52,7 @@ word-tail I n i w r = record { long = omega (arith, r .long); below = r .below .
 -- ---- sums over a list
 
 module _ {A : Type 0} where
+  -- equal terms have equal sums
   pub total-cong : (f g : A → ℕ) (xs : List A) → ((x : A) → f x ≡ g x) → total f xs ≡ total g xs
   unfolding total
   total-cong f g [] e = refl
@@ -153,8 +154,11 @@ module _ (I : ℕ) where
   word-stands (suc n) [] r = absurd (omega (arith, r .long))
   word-stands (suc n) (i ∷ w) r =
       let p = word-stands n w (word-tail I n i w r) in
-      let low : p .0 < I ^ n = rw length-words at (p .1) in
-      (i * I ^ n + p .0, rw length-next (digits-lt (r .below .0) low), words-place n i (p .0) (r .below .0) low ∙ ap {B = List ℕ} (λ (v : List ℕ). i ∷ v) (p .2))
+      let low : p .0 < I ^ n = rw length-words at (p .1) in (
+        i * I ^ n + p .0,
+        rw length-next (digits-lt (r .below .0) low),
+        words-place n i (p .0) (r .below .0) low ∙ ap {B = List ℕ} (λ (v : List ℕ). i ∷ v) (p .2),
+      )
 
   -- the words of n letters below I are exactly what stands in the list
   pub words-has : (n : ℕ) (w : List ℕ) → Word I n w ↔ ((k : ℕ) × (k < length (words I n)) × (getD (words I n) k [] ≡ w))

@@ -2,3 +2,4 @@
 pub mod Step
 pub mod States
 pub mod Numbered
+pub mod NumberedLaws
