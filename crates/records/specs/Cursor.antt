@@ -7,8 +7,8 @@ use Prim.Native.Nat.{ℕ, _+_, _-_, _≤_, _<_}
 use native.Mathlib.Omega.{arith}
 use lib.Dec.{ltb, leb}
 use lib.ListN.{length}
-use borrow.Author.Tests.{leb-false, ltb-false}
-use Rattle.records.specs.Tests.{both-ways}
+use borrow.Author.Tests.{leb-true, leb-false, ltb-false, le-leb, lt-leb, le-ltb}
+use Rattle.records.specs.Tests.{by-test}
 use Rattle.records.specs.Numbers.{u16At, u16Bytes}
 use Rattle.records.specs.declared.cursor.Cursor.{Cursor}
 use Rattle.records.specs.declared.cursor.Found.{Found}
@@ -39,3 +39,30 @@ pub record Lies (s : List ℕ) (at kind start size : ℕ) (next : Cursor) : Type
   pub is-size : size ≡ u16At s at
   pub is-next : next .at ≡ start + size
   pub inside : next .at ≤ length s
+
+-- what a cursor finds where a record lies inside the bytes
+abbrev pub recordAt : List ℕ → ℕ → Found
+recordAt s at = Record (u16At s (at + 2)) (at + 4) (u16At s at) (record { at = at + 4 + u16At s at })
+
+-- the three that a cursor can find, each with what it says of the bytes
+pub read-cases {ℓ} : {X : Type ℓ} (s : List ℕ) (at : ℕ) → (readAt s at ≡ End → length s ≤ at → X)
+    → (readAt s at ≡ Truncated → X)
+    → (readAt s at ≡ recordAt s at → at + 4 + u16At s at ≤ length s → X) → X
+unfolding readAt
+read-cases s at end short found =
+    by-test (leb (length s) at) (λ e. end (rw e) (leb-true (length s) at e))
+    (λ e. by-test (ltb (length s - at) 4) (λ f. short (rw (e, f)))
+    (λ f. by-test (ltb (length s - (at + 4)) (u16At s at)) (λ g. short (rw (e, f, g)))
+    (λ g. found (rw (e, f, g))
+    (omega (arith, leb-false (length s) at e, ltb-false (length s - at) 4 f, ltb-false (length s - (at + 4)) (u16At s at) g)))))
+
+-- at the end of the bytes
+pub read-end : (s : List ℕ) (at : ℕ) → length s ≤ at → readAt s at ≡ End
+unfolding readAt
+read-end s at h = rw (le-leb (length s) at h)
+
+-- where a record lies inside the bytes
+pub read-record : (s : List ℕ) (at : ℕ) → at + 4 + u16At s at ≤ length s → readAt s at ≡ recordAt s at
+unfolding readAt
+read-record s at h =
+    rw (lt-leb (length s) at (omega arith), le-ltb (length s - at) 4 (omega arith), le-ltb (length s - (at + 4)) (u16At s at) (omega arith))

@@ -3,7 +3,7 @@
 use mathlib.Core.Path.{_≡_, refl, ap, ap₂, sym, _∙_}
 use mathlib.Core.List.{List, [], _∷_, _++_, append-nil, append-assoc}
 use Prim.Native.Nat.{ℕ, zero, suc, _+_, _-_, _*_, _≤_, _<_, suc-le-suc}
-use native.Mathlib.Nat.{not-suc-le-zero, le-of-suc-le-suc, add-suc, add-zero, suc-mul, zero-add}
+use native.Mathlib.Nat.{not-suc-le-zero, le-of-suc-le-suc, add-suc, add-zero, add-assoc, suc-add, suc-mul, zero-add}
 use native.Mathlib.Numerals.{add-one}
 use native.Mathlib.Omega.{arith}
 use lib.ListN.{length, getD, set, take, drop, length-append, List·getD-append}
@@ -156,3 +156,46 @@ sets-one d at x = refl
 -- from index 0: the new elements, then the old rest
 pub sets-front {ℓ} : {A : Type ℓ} (d xs : List A) → length xs ≤ length d → sets d 0 xs ≡ xs ++ drop (length xs) d
 sets-front d xs h = sets-eq xs d 0 (omega arith) ∙ rw zero-add
+
+-- ---- a stretch of a list
+
+tab-add {ℓ} : {A : Type ℓ} (n m : ℕ) (f : ℕ → A) → tab (n + m) f ≡ tab n f ++ tab m (λ k. f (n + k))
+unfolding tab
+tab-add zero m f = rw zero-add (tab-ext m f (λ k. f (0 + k)) (λ k h. rw zero-add))
+tab-add (suc n) m f =
+    rw suc-add
+    (rw (tab-add n m (λ k. f (suc k)))
+    (ap (λ (l : List _). f 0 ∷ (tab n (λ k. f (suc k)) ++ l)) (tab-ext m (λ k. f (suc (n + k))) (λ k. f (suc n + k)) (λ k h. rw suc-add))))
+
+-- n elements from an index on, 0 where there is none
+unfoldable pub part : List ℕ → ℕ → ℕ → List ℕ
+part s at n = tab n (λ k. getD s (at + k) 0)
+
+-- a stretch in two
+pub part-add : (s : List ℕ) (at n m : ℕ) → part s at (n + m) ≡ part s at n ++ part s (at + n) m
+unfolding part
+part-add s at n m =
+    tab-add n m (λ k. getD s (at + k) 0)
+    ∙ ap (λ (l : List ℕ). tab n (λ k. getD s (at + k) 0) ++ l)
+    (tab-ext m (λ k. getD s (at + (n + k)) 0) (λ k. getD s (at + n + k) 0) (λ k h. rw add-assoc))
+
+-- the whole list
+pub part-whole : (s : List ℕ) → part s 0 (length s) ≡ s
+unfolding part
+part-whole s = sym (tab-eq 0 (length s) (λ k. getD s (0 + k) 0) s refl (λ k h. rw zero-add))
+
+-- a stretch in blocks of one length
+pub part-cat : (s : List ℕ) (at n w : ℕ) → part s at (n * w) ≡ cat n (λ q. part s (at + q * w) w)
+unfolding cat part tab
+part-cat s at zero w = rw (native.Mathlib.Nat.zero-mul)
+part-cat s at (suc n) w = rw (suc-mul, part-add s at (n * w) w, part-cat s at n w)
+
+-- block j, and what stands before and after it
+pub cat-at {ℓ} : {A : Type ℓ} (n : ℕ) (f : ℕ → List A) (j : ℕ) → j < n → (rest : List A) × (cat n f ≡ cat j f ++ (f j ++ rest))
+unfolding cat
+cat-at zero f j h = absurd (omega arith)
+cat-at {A} (suc n) f j h =
+    cases-suc j n h
+    (λ l. let r : (rest : List A) × (cat n f ≡ cat j f ++ (f j ++ rest)) = cat-at n f j l in
+    (r .0 ++ f n, rw (r .1) (simp append-assoc)))
+    (λ e. ([], rw (e, append-nil)))

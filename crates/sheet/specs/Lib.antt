@@ -7,3 +7,4 @@ pub mod Monitor
 pub mod Reader
 pub mod Refusals
 pub mod Promises
+pub mod Agree
