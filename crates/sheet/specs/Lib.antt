@@ -8,3 +8,4 @@ pub mod Reader
 pub mod Refusals
 pub mod Promises
 pub mod Agree
+pub mod Turns
