@@ -1,15 +1,17 @@
 -- Records: a two-byte length of the body, a two-byte kind, then the body. A cursor finds one at a time.
 -- Assumes nothing.
-use mathlib.Core.Path.{_≡_, refl, sym, ap}
+use mathlib.Core.Path.{_≡_, refl, sym, ap, _∙_}
 use mathlib.Core.Bool.{Bool, true, false, cond}
 use mathlib.Core.List.{List, [], _∷_, _++_}
-use Prim.Native.Nat.{ℕ, _+_, _-_, _≤_, _<_}
+use Prim.Native.Nat.{ℕ, _+_, _-_, _*_, _≤_, _<_}
+use native.Mathlib.Nat.{add-zero, add-assoc}
 use native.Mathlib.Omega.{arith}
 use lib.Dec.{ltb, leb}
-use lib.ListN.{length}
+use lib.ListN.{length, getD}
 use borrow.Author.Tests.{leb-true, leb-false, ltb-false, le-leb, lt-leb, le-ltb}
 use Rattle.records.specs.Tests.{by-test}
-use Rattle.records.specs.Numbers.{u16At, u16Bytes}
+use Rattle.records.specs.Lists.{tab, part}
+use Rattle.records.specs.Numbers.{Bytes, u16At, u16Bytes, u16-low, u16-high}
 use Rattle.records.specs.declared.cursor.Cursor.{Cursor}
 use Rattle.records.specs.declared.cursor.Found.{Found}
 use Rattle.records.specs.declared.cursor.Found.the-variants.{Record, Truncated, End}
@@ -66,3 +68,16 @@ pub read-record : (s : List ℕ) (at : ℕ) → at + 4 + u16At s at ≤ length s
 unfolding readAt
 read-record s at h =
     rw (lt-leb (length s) at (omega arith), le-ltb (length s - at) 4 (omega arith), le-ltb (length s - (at + 4)) (u16At s at) (omega arith))
+
+-- four bytes with a length and a kind are the header that is written for them
+pub header-there : (s : List ℕ) (at size kind : ℕ) → Bytes s → u16At s at ≡ size → u16At s (at + 2) ≡ kind → part s at 4 ≡ header size kind
+unfolding part tab u16At
+header-there s at size kind b e f =
+    let g : getD s (at + 2) 0 + 256 * getD s (at + 3) 0 ≡ kind = rw (add-assoc at 2 1) at f in
+    rw (
+      add-zero at,
+      u16-low (getD s at 0) (getD s (at + 1) 0) size (b at) e,
+      u16-high (getD s at 0) (getD s (at + 1) 0) size (b at) e,
+      u16-low (getD s (at + 2) 0) (getD s (at + 3) 0) kind (b (at + 2)) g,
+      u16-high (getD s (at + 2) 0) (getD s (at + 3) 0) kind (b (at + 2)) g,
+    )

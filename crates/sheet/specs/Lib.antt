@@ -9,3 +9,4 @@ pub mod Refusals
 pub mod Promises
 pub mod Agree
 pub mod Turns
+pub mod Judged
