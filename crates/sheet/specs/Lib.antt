@@ -10,3 +10,5 @@ pub mod Promises
 pub mod Agree
 pub mod Turns
 pub mod Judged
+pub mod Placed
+pub mod Sound
