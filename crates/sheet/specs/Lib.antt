@@ -12,3 +12,4 @@ pub mod Turns
 pub mod Judged
 pub mod Placed
 pub mod Sound
+pub mod Facts
