@@ -1,10 +1,11 @@
 -- Lists given by what stands at each index, lists put together from blocks, and stores into a list.
 -- Assumes nothing.
-use mathlib.Core.Path.{_≡_, refl, ap, ap₂, sym, _∙_}
+use mathlib.Core.Path.{_≡_, refl, ap, ap₂, sym, _∙_, subst}
 use mathlib.Core.List.{List, [], _∷_, _++_, append-nil, append-assoc}
 use Prim.Native.Nat.{ℕ, zero, suc, _+_, _-_, _*_, _≤_, _<_, suc-le-suc}
 use native.Mathlib.Nat.{not-suc-le-zero, le-of-suc-le-suc, add-suc, add-zero, add-assoc, suc-add, suc-mul, zero-add}
 use native.Mathlib.Numerals.{add-one}
+use native.Mathlib.Decide.{decLt}
 use native.Mathlib.Omega.{arith}
 use lib.ListN.{length, getD, set, take, drop, length-append, List·getD-append}
 use lib.Seq.{ext-getD, sets, sets-eq, length-sets, getD-append-add}
@@ -143,6 +144,21 @@ module _ {ℓ} {A : Type ℓ} (c : ℕ) where
       cases-suc k n h
       (λ u. List·getD-append (cat n f) (f n) d (k * c + j) (rw size (lib.Arith.digits-lt u l)) ∙ getD-cat n f (λ i v. e i (omega arith)) k j d u l)
       (λ u. rw (u, ← size) (getD-append-add (cat n f) (f n) j d))
+
+-- what holds of every element of every block
+pub cat-each {ℓ} : {A : Type ℓ} (P : A → Type 0) (d : A) (n : ℕ) (f : ℕ → List A)
+    → ((q i : ℕ) → q < n → i < length (f q) → P (getD (f q) i d)) → (k : ℕ) → k < length (cat n f) → P (getD (cat n f) k d)
+unfolding cat
+cat-each P d zero f h k l = absurd (omega arith)
+cat-each P d (suc n) f h k l =
+    elim (decLt k (length (cat n f))) [
+      | yes u ↦ rw (List·getD-append (cat n f) (f n) d k u) (cat-each P d n f (λ q i v. h q i (omega arith)) k u)
+      | no u ↦
+          let at : length (cat n f) + (k - length (cat n f)) ≡ k = omega arith in
+          subst (λ x. P (getD (cat n f ++ f n) x d)) at
+          (rw (getD-append-add (cat n f) (f n) (k - length (cat n f)) d)
+          (h n (k - length (cat n f)) (omega arith) (omega (arith, length-append (cat n f) (f n)))))
+    ]
 
 -- ---- stores one after the other: `sets d at xs` is d with xs stored from index at on
 

@@ -13,3 +13,4 @@ pub mod Judged
 pub mod Placed
 pub mod Sound
 pub mod Facts
+pub mod Written
