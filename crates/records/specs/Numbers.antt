@@ -40,12 +40,15 @@ u16-back xs v ys =
 
 -- ---- lists of bytes
 
-pub bytes-none : Bytes []
-bytes-none k = omega arith
+-- each of a short list, as `omega` proves it
+abbrev pub Small : List ℕ → Type 0
+Small [] = Unit
+Small (x ∷ s) = (x < 256) × Small s
 
-pub bytes-cons : (x : ℕ) (s : List ℕ) → x < 256 → Bytes s → Bytes (x ∷ s)
-bytes-cons x s h b zero = h
-bytes-cons x s h b (suc k) = b k
+pub bytes-small : (s : List ℕ) → Small s → Bytes s
+bytes-small [] h k = omega arith
+bytes-small (x ∷ s) h zero = h .0
+bytes-small (x ∷ s) h (suc k) = bytes-small s (h .1) k
 
 pub bytes-append : (s t : List ℕ) → Bytes s → Bytes t → Bytes (s ++ t)
 bytes-append [] t b c k = c k
@@ -59,11 +62,8 @@ bytes-of s h k =
 
 pub bytes-cat : (n : ℕ) (f : ℕ → List ℕ) → ((k : ℕ) → k < n → Bytes (f k)) → Bytes (cat n f)
 unfolding cat
-bytes-cat zero f h = bytes-none
+bytes-cat zero f h = bytes-small [] tt
 bytes-cat (suc n) f h = bytes-append (cat n f) (f n) (bytes-cat n f (λ k l. h k (omega arith))) (h n (omega arith))
-
-pub bytes-u16 : (v : ℕ) → v < 65_536 → Bytes (v % 256 ∷ v / 256 ∷ [])
-bytes-u16 v h = bytes-cons (v % 256) (v / 256 ∷ []) (omega arith) (bytes-cons (v / 256) [] (omega arith) bytes-none)
 
 -- the two bytes that make a number are those that are written for it
 pub u16-low : (a b v : ℕ) → a < 256 → a + 256 * b ≡ v → v % 256 ≡ a

@@ -14,3 +14,5 @@ pub mod Placed
 pub mod Sound
 pub mod Facts
 pub mod Written
+pub mod Complete
+pub mod Laws
