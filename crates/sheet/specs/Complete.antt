@@ -1,9 +1,9 @@
 -- The bytes of a sheet in bounds are accepted, and the layout stands for that sheet.
 -- Assumes nothing.
-use mathlib.Core.Path.{_≡_, refl, sym, ap, ap₂, _∙_}
-use mathlib.Core.Bool.{true, cond}
+use mathlib.Core.Path.{_≡_, refl, sym, ap, _∙_}
+use mathlib.Core.Bool.{true}
 use mathlib.Core.List.{List, [], _∷_, _++_, append-assoc, append-nil}
-use Prim.Native.Nat.{ℕ, zero, suc, _+_, _*_, _/_, _%_, _^_, _≤_, _<_}
+use Prim.Native.Nat.{ℕ, zero, suc, _+_, _*_, _/_, _%_, _≤_, _<_}
 use native.Mathlib.Nat.{mul-le-mul}
 use native.Mathlib.Omega.{arith}
 use lib.Dec.{eqb}
@@ -16,16 +16,14 @@ use Rattle.records.specs.Lists.{tab, tab-eq, cat, cat-at}
 use Rattle.records.specs.Numbers.{Bytes, bytes-small, bytes-append, bytes-of, bytes-cat, u16At}
 use Rattle.records.specs.Limits.{horizonOk}
 use Rattle.sheet.specs.Decoded.{Automaton, Decoded, noAutomaton, monitorOf, inputsOf, inputLines, lettersOf, letters, HeadOk, HorizonOk, MonitorOk, SheetOk, encodeHead, encodeMonitor, encode}
-use Rattle.sheet.specs.Layout.{verdictNumber, accepted}
+use Rattle.sheet.specs.Layout.{verdictNumber}
 use Rattle.sheet.specs.Where.{automaton, placed, decoded}
 use Rattle.sheet.specs.Head.{headOk, headSheet}
-use Rattle.sheet.specs.Monitor.{monitorAt}
 use Rattle.sheet.specs.Reader.{reading}
 use Rattle.sheet.specs.Turns.{offset, upto, Turn, Chain, chain-reads, placed-at}
 use Rattle.sheet.specs.Judged.{Numbers, Literals, head-test}
 use Rattle.sheet.specs.Sound.{literal-is}
-use Rattle.sheet.specs.Written.{rowBytes, length-rowBytes, length-monitor, size-back, kind-back, monitor-passes, monitor-back}
-use Rattle.sheet.specs.declared.layout.Sheet.{Sheet}
+use Rattle.sheet.specs.Written.{rowBytes, length-monitor, size-back, kind-back, monitor-passes, monitor-back}
 
 -- ---- the head
 

@@ -1,17 +1,17 @@
 -- What a layout that fits its bytes tells the layers above, one small fact each.
 -- Assumes nothing.
-use mathlib.Core.Path.{_≡_, refl, sym, ap, _∙_}
-use mathlib.Core.List.{List, [], _∷_}
+use mathlib.Core.Path.{_≡_, sym, _∙_}
+use mathlib.Core.List.{List, []}
 use Prim.Native.Nat.{ℕ, _+_, _*_, _%_, _≤_, _<_}
 use native.Mathlib.Omega.{arith}
 use lib.ListN.{length, getD}
 use lib.Arith.{digits-lt}
 use borrow.Author.Tests.{eq-eqb, ne-eqb}
 use Rattle.records.specs.Lists.{getD-tab}
-use Rattle.sheet.specs.Decoded.{Automaton, Decoded, monitorOf, inputsOf, inputLines, lettersOf, letters, HeadOk, MonitorOk}
+use Rattle.sheet.specs.Decoded.{monitorOf, inputsOf, inputLines, letters, MonitorOk}
 use Rattle.sheet.specs.Where.{width, automaton, placed, decoded, Fits}
 use Rattle.sheet.specs.Placed
-use Rattle.sheet.specs.declared.layout.Monitor.{Monitor}
+use Rattle.sheet.specs.Once.{onto}
 use Rattle.sheet.specs.declared.layout.Sheet.{Sheet}
 
 -- ---- the head
@@ -86,6 +86,10 @@ module _ {s : List ℕ} {h : Sheet} (f : Fits s h) where
   pub literal-once : (i j : ℕ) → i < j → j < h .outputs → getD (h .literals) i 0 % 8 ≡ getD (h .literals) j 0 % 8 → ⊥
   unfolding decoded
   literal-once i j u l e = f .ok .head .literal-once i j u l (omega (arith, literal-is i (omega arith), literal-is j l))
+
+  -- and every line is named
+  pub literal-of : (line : ℕ) → line < h .outputs → (j : ℕ) × (j < h .outputs) × (getD (h .literals) j 0 % 8 ≡ line)
+  literal-of = onto (h .outputs) (λ j. getD (h .literals) j 0 % 8) literal-line literal-once
 
 -- ---- a monitor
 

@@ -1,16 +1,16 @@
 -- What the reader's tests of a head and of a monitor say of the bytes, and the other way round.
 -- Assumes nothing.
-use mathlib.Core.Path.{_≡_, refl, sym, _∙_}
-use mathlib.Core.Bool.{Bool, true, false, cond, not, _&&_, _||_}
+use mathlib.Core.Path.{_≡_, refl}
+use mathlib.Core.Bool.{Bool, true, not, _&&_, _||_}
 use mathlib.Core.Logic.{_≢_}
-use mathlib.Core.List.{List, [], _∷_}
-use Prim.Native.Nat.{ℕ, zero, suc, _+_, _-_, _*_, _%_, _≤_, _<_}
+use mathlib.Core.List.{List}
+use Prim.Native.Nat.{ℕ, _+_, _-_, _*_, _%_, _≤_, _<_}
 use native.Mathlib.Omega.{arith}
 use lib.Dec.{ltb, leb, eqb}
-use lib.ListN.{length, getD}
+use lib.ListN.{getD}
 use borrow.Author.Tests.{ltb-true, leb-true, eqb-true, eqb-false, not-true, lt-ltb, le-leb, eq-eqb, ne-eqb}
-use Rattle.records.specs.Tests.{both-ways, by-test, and-left, and-right, and-both, or-not, or-left, or-right}
-use Rattle.records.specs.Bounded.{all, all-at, all-of}
+use Rattle.records.specs.Tests.{both-ways, by-test, and-left, and-right, or-not}
+use Rattle.records.specs.Bounded.{all-at, all-of}
 use Rattle.records.specs.Limits.{linesOk, Lines, lines-facts}
 use Rattle.sheet.specs.Decoded.{inputsOf, lettersOf}
 use Rattle.sheet.specs.Head.{siteOk, freshLine, literalOk, literalsOk, numbersOk, headOk}

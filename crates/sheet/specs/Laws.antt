@@ -1,17 +1,16 @@
 -- What reading a sheet promises, proved of the model: the code's proof has only to be the model.
 -- Assumes nothing.
-use mathlib.Core.Path.{_≡_, refl, sym, subst}
+use mathlib.Core.Path.{_≡_, refl}
 use mathlib.Core.List.{List}
 use Prim.Native.Nat.{ℕ}
 use Rattle.records.specs.Numbers.{Bytes}
 use Rattle.sheet.specs.Decoded.{Decoded, SheetOk, encode}
-use Rattle.sheet.specs.Layout.{verdictNumber}
-use Rattle.sheet.specs.Where.{decoded, Fits}
+use Rattle.sheet.specs.Where.{decoded}
 use Rattle.sheet.specs.Reader.{reading}
 use Rattle.sheet.specs.Promises.{Reads}
 use Rattle.sheet.specs.Agree.{verdict-number}
 use Rattle.sheet.specs.Sound.{accepted-fits, accepted-same}
-use Rattle.sheet.specs.Complete.{encode-accepted}
+use Rattle.sheet.specs.Complete.{encode-accepted, decode-encode}
 use Rattle.sheet.specs.declared.layout.Reading.{Reading}
 
 -- the model keeps every promise
@@ -31,3 +30,7 @@ reads s b =
 -- so does an answer that is the model's
 pub reads-as : (s : List ℕ) (r : Reading) → Bytes s → r ≡ reading s → Reads s r
 reads-as s r b e = rw e (reads s b)
+
+-- no other sheet in bounds has the bytes of an accepted one
+pub only-sheet : (s : List ℕ) (d : Decoded) → SheetOk d → encode d ≡ s → decoded s (reading s .sheet) ≡ d
+only-sheet s d o e = rw (← e) (decode-encode d o)

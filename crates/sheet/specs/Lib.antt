@@ -12,7 +12,9 @@ pub mod Turns
 pub mod Judged
 pub mod Placed
 pub mod Sound
+pub mod Once
 pub mod Facts
 pub mod Written
 pub mod Complete
 pub mod Laws
+pub mod Examples

@@ -1,13 +1,12 @@
 -- The automaton that a layout places: its parts, and the bytes that they are.
 -- Assumes nothing.
-use mathlib.Core.Path.{_≡_, refl, sym, ap, _∙_}
-use mathlib.Core.List.{List, [], _∷_, _++_}
-use Prim.Native.Nat.{ℕ, _+_, _*_, _≤_, _<_}
+use mathlib.Core.Path.{_≡_, refl, sym, _∙_}
+use mathlib.Core.List.{List, []}
+use Prim.Native.Nat.{ℕ, _+_, _*_, _<_}
 use native.Mathlib.Nat.{add-assoc}
-use native.Mathlib.Omega.{arith}
 use lib.ListN.{length, getD}
 use Rattle.records.specs.Lists.{tab, length-tab, getD-tab, tab-ext, cat, cat-ext, part, part-cat}
-use Rattle.sheet.specs.Decoded.{Automaton, Decoded, noAutomaton, monitorOf}
+use Rattle.sheet.specs.Decoded.{noAutomaton, monitorOf}
 use Rattle.sheet.specs.Where.{width, automaton, placed, decoded}
 use Rattle.sheet.specs.declared.layout.Monitor.{Monitor}
 use Rattle.sheet.specs.declared.layout.Sheet.{Sheet}

@@ -8,17 +8,17 @@ use native.Mathlib.Omega.{arith}
 use lib.ListN.{length, getD}
 use lib.Arith.{digits-lt}
 use borrow.Author.Tests.{lt-ltb}
-use Rattle.records.specs.Lists.{tab, length-tab, getD-tab, tab-ext, cat, cat-ext, part, part-add, part-whole}
+use Rattle.records.specs.Lists.{tab, length-tab, getD-tab, tab-ext, cat, part, part-add, part-whole}
 use Rattle.records.specs.Numbers.{Bytes, u16At}
-use Rattle.records.specs.Cursor.{header, header-there}
+use Rattle.records.specs.Cursor.{header-there}
 use Rattle.records.specs.Limits.{Horizon, horizon-facts}
-use Rattle.sheet.specs.Decoded.{Automaton, Decoded, monitorOf, inputsOf, lettersOf, HeadOk, HorizonOk, MonitorOk, SheetOk, encodeHead, encodeMonitor, encode}
+use Rattle.sheet.specs.Decoded.{Decoded, monitorOf, inputsOf, lettersOf, HeadOk, HorizonOk, MonitorOk, SheetOk, encodeHead, encodeMonitor, encode}
 use Rattle.sheet.specs.Layout.{verdictNumber}
-use Rattle.sheet.specs.Where.{width, automaton, placed, decoded, Fits}
+use Rattle.sheet.specs.Where.{width, automaton, decoded, Fits}
 use Rattle.sheet.specs.Head.{headSheet, literalAt}
 use Rattle.sheet.specs.Monitor.{monitorAt}
 use Rattle.sheet.specs.Reader.{reading}
-use Rattle.sheet.specs.Turns.{offset, upto, Turn, Chain, chain-of, placed-at, offset-up}
+use Rattle.sheet.specs.Turns.{offset, upto, Chain, chain-of, placed-at, offset-up}
 use Rattle.sheet.specs.Judged.{Numbers, Literals, Role, Body, head-facts, monitor-facts}
 use Rattle.sheet.specs.Placed.{length-monitors, monitor-is, length-accept, length-rows, accept-at, length-row, next-at, accept-is, rows-are}
 use Rattle.sheet.specs.declared.layout.Monitor.{Monitor}

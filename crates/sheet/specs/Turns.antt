@@ -1,9 +1,9 @@
 -- The records of an accepted sheet in turn, by index: where each begins, the layout after so many monitors, and that the
 -- reader accepts exactly where each turn passes its tests and the last one ends with the bytes.
 -- Assumes nothing.
-use mathlib.Core.Path.{_≡_, refl, sym, _∙_}
+use mathlib.Core.Path.{_≡_, refl, _∙_}
 use mathlib.Core.Bool.{Bool, true, false, cond}
-use mathlib.Core.List.{List, [], _∷_}
+use mathlib.Core.List.{List}
 use Prim.Native.Nat.{ℕ, zero, suc, _+_, _≤_, _<_}
 use native.Mathlib.Nat.{zero-add, add-zero, add-suc}
 use native.Mathlib.Numerals.{add-one}
@@ -15,7 +15,7 @@ use borrow.Author.Tests.{eqb-true, leb-false, eq-eqb, lt-leb}
 use Rattle.records.specs.Tests.{by-test}
 use Rattle.records.specs.Bounded.{cases-suc}
 use Rattle.records.specs.Numbers.{u16At}
-use Rattle.records.specs.Cursor.{readAt, read-cases, read-end, read-record}
+use Rattle.records.specs.Cursor.{read-cases, read-end, read-record}
 use Rattle.records.specs.Limits.{horizonOk}
 use Rattle.sheet.specs.Decoded.{inputsOf}
 use Rattle.sheet.specs.Layout.{noMonitor, accepted, refused, verdictNumber, withMonitor}

@@ -1,22 +1,20 @@
 -- A monitor's bytes as they are written, read back at their offsets.
 -- Assumes nothing.
-use mathlib.Core.Path.{_≡_, refl, sym, ap, ap₂, _∙_}
+use mathlib.Core.Path.{_≡_, refl, sym, _∙_}
 use mathlib.Core.Bool.{true}
-use mathlib.Core.List.{List, [], _∷_, _++_, append-assoc}
-use Prim.Native.Nat.{ℕ, zero, suc, _+_, _*_, _/_, _%_, _≤_, _<_}
+use mathlib.Core.List.{List, [], _∷_, _++_}
+use Prim.Native.Nat.{ℕ, _+_, _*_, _/_, _%_, _<_}
 use native.Mathlib.Nat.{add-assoc, add-zero}
-use native.Mathlib.Decide.{decLt}
 use native.Mathlib.Omega.{arith}
 use lib.ListN.{length, getD, length-append, List·getD-append}
 use lib.Seq.{getD-append-add}
 use lib.Arith.{digits-lt}
-use Rattle.records.specs.Lists.{tab, tab-eq, tab-self, cat, length-cat, getD-cat, cat-each}
+use Rattle.records.specs.Lists.{tab, tab-eq, cat, length-cat, getD-cat, cat-each}
 use Rattle.records.specs.Numbers.{u16At}
 use Rattle.sheet.specs.Decoded.{Automaton, Decoded, letters, lettersOf, MonitorOk, encodeMonitor}
-use Rattle.sheet.specs.Where.{width, automaton}
+use Rattle.sheet.specs.Where.{automaton}
 use Rattle.sheet.specs.Monitor.{monitorOk, monitorAt}
 use Rattle.sheet.specs.Judged.{Role, Body, monitor-test}
-use Rattle.sheet.specs.declared.layout.Monitor.{Monitor}
 use Rattle.sheet.specs.declared.layout.Sheet.{Sheet}
 
 -- the rows of an automaton, one after the other
