@@ -1,0 +1,125 @@
+// What a reader knows of a sheet: its numbers, and where the monitors lie in its bytes.
+ghost use mathlib.Core.Path.{_≡_};
+ghost use Prim.Native.Nat.{_<_};
+ghost use Rattle.sheet.specs.Layout.{noMonitor, blank, withMonitor, accepted, refused};
+
+// One monitor: its numbers, and where its accept bytes and its rows of next states begin.
+pub struct Monitor {
+    pub role: u8,
+    pub weight: u8,
+    pub states: u8,
+    pub start: u8,
+    pub accept: usize,
+    pub rows: usize,
+}
+
+// A sheet. `site` lines come from the site, `inputs` is the guard's number of input lines, `matching` is the match
+// weight. The first `outputs` literals and the first `count` monitors are the sheet's.
+pub struct Sheet {
+    pub mode: u8,
+    pub site: u8,
+    pub inputs: u8,
+    pub outputs: u8,
+    pub horizon: u8,
+    pub matching: u8,
+    pub literals: [u8; 3],
+    pub monitors: [Monitor; 6],
+    pub count: usize,
+}
+
+// The grounds on which a maker refuses.
+pub enum Refusal {
+    Truncated,
+    Misplaced,
+    BadHead,
+    BadMonitor,
+    SeventhMonitor,
+    LongHorizon,
+    TooManyStates,
+    Unrealizable,
+    ShortResult,
+    ShortWork,
+}
+
+pub enum Verdict {
+    Accepted,
+    Refused(Refusal),
+}
+
+// A verdict, with the sheet that was read; on a refusal the blank sheet.
+pub struct Reading {
+    pub sheet: Sheet,
+    pub verdict: Verdict,
+}
+
+impl Monitor {
+    pub fn none() -> Monitor
+        ensures { λ r. ⌜ r ≡ noMonitor ⌝ }
+    {
+        Monitor {
+            role: 0,
+            weight: 0,
+            states: 0,
+            start: 0,
+            accept: 0,
+            rows: 0,
+        }
+    }
+}
+
+impl Sheet {
+    // A sheet has at most so many monitors.
+    pub const MONITORS: usize = 6;
+
+    // A monitor has at most so many states.
+    pub const MONITOR_STATES: u8 = 32;
+
+    pub fn blank() -> Sheet
+        ensures { λ r. ⌜ r ≡ blank ⌝ }
+    {
+        let none = Monitor::none();
+        Sheet {
+            mode: 0,
+            site: 0,
+            inputs: 0,
+            outputs: 0,
+            horizon: 0,
+            matching: 0,
+            literals: [0; 3],
+            monitors: [none; 6],
+            count: 0,
+        }
+    }
+
+    // The sheet with one more monitor.
+    pub fn with_monitor(self, m: Monitor) -> Sheet
+        requires { ⌜ self .count < 6 ⌝ }
+        ensures { λ r. ⌜ r ≡ withMonitor self m ⌝ }
+    {
+        let at = self.count;
+        let mut next = self;
+        next.monitors[at] = m;
+        next.count = at + 1;
+        next
+    }
+}
+
+impl Reading {
+    pub fn accepted(sheet: Sheet) -> Reading
+        ensures { λ r. ⌜ r ≡ accepted sheet ⌝ }
+    {
+        Reading {
+            sheet,
+            verdict: Verdict::Accepted,
+        }
+    }
+
+    pub fn refused(ground: Refusal) -> Reading
+        ensures { λ r. ⌜ r ≡ refused ground ⌝ }
+    {
+        Reading {
+            sheet: Sheet::blank(),
+            verdict: Verdict::Refused(ground),
+        }
+    }
+}
