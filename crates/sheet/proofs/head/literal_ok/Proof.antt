@@ -1,33 +1,30 @@
+-- `sheet::head::literal_ok`: the tests in the definition's order. Assumes nothing.
+use Rattle.records.specs.Tests.{cases}
+use Rattle.sheet.specs.Head.{literalOk}
 use borrow.Author.Needs.{needs}
 use Rattle.sheet.proofs.head.literal_ok.Statement.{statement}
 use Rattle.sheet.proofs.head.literal_ok.Tie as tie
-use Rattle.sheet.proofs.head.literal_ok.Reads as reads
-use Rattle.sheet.proofs.head.literal_ok.Lts as lts
-use Rattle.sheet.proofs.head.fresh_line.Reads as fresh-line-reads
 
--- src/head.rt:59:21
 add-literal : tie.Need-add-literal
 add-literal c = search needs
 
--- src/head.rt:59:19
 shared-slice-read-literal : tie.Need-shared-slice-read-literal
 shared-slice-read-literal c = search needs
 
--- src/head.rt:61:9
 returns : tie.Need-returns
-returns c = ?
+unfolding literalOk
+returns c = search cases
 
--- src/head.rt:64:9
 returns-2 : tie.Need-returns-2
-returns-2 c = ?
+unfolding literalOk
+returns-2 c = search cases
 
--- src/head.rt:66:5
 fresh-line-requires : tie.Need-fresh-line-requires
 fresh-line-requires c κs = search needs
 
--- src/head.rt:55:1
 returns-3 : tie.Need-returns-3
-returns-3 c = ?
+unfolding literalOk
+returns-3 c = search (cases, c .fresh-line .ensures)
 
 pub literal-ok-spec : {M : Type 1} → statement M
 literal-ok-spec =

@@ -1,33 +1,31 @@
+-- `sheet::head::numbers_ok`: the tests in the definition's order. Assumes nothing.
+use Rattle.records.specs.Tests.{cases, said-no, said-yes}
+use Rattle.sheet.specs.Head.{numbersOk}
 use borrow.Author.Needs.{needs}
 use Rattle.sheet.proofs.head.numbers_ok.Statement.{statement}
 use Rattle.sheet.proofs.head.numbers_ok.Tie as tie
-use Rattle.sheet.proofs.head.numbers_ok.Reads as reads
-use Rattle.sheet.proofs.head.numbers_ok.Lts as lts
-use Rattle.sheet.proofs.head.site_ok.Reads as site-ok-reads
 
--- src/head.rt:89:9
 site-ok-requires : tie.Need-site-ok-requires
 site-ok-requires c κs = search needs
 
--- src/head.rt:90:9
 returns : tie.Need-returns
-returns c = ?
+unfolding numbersOk
+returns c = simp (said-no (c .before .site-ok .ensures) (c .if1 .taken))
 
--- src/head.rt:92:16
 add-if2 : tie.Need-add-if2
 add-if2 c = search needs
 
--- src/head.rt:93:9
 returns-2 : tie.Need-returns-2
-returns-2 c = ?
+unfolding numbersOk
+returns-2 c = search (cases, c .if2 .taken, said-yes (c .before .before .site-ok .ensures) (c .before .if1 .left))
 
--- src/head.rt:86:1
 returns-3 : tie.Need-returns-3
-returns-3 c = ?
+unfolding numbersOk
+returns-3 c = search (cases, said-yes (c .before .before .before .site-ok .ensures) (c .before .before .if1 .left))
 
--- src/head.rt:86:1
 returns-4 : tie.Need-returns-4
-returns-4 c = ?
+unfolding numbersOk
+returns-4 c = search (cases, c .if3 .left, said-yes (c .before .before .before .site-ok .ensures) (c .before .before .if1 .left))
 
 pub numbers-ok-spec : {M : Type 1} → statement M
 numbers-ok-spec =

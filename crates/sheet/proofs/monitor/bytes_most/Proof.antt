@@ -1,45 +1,50 @@
+-- `sheet::monitor::bytes_most`: a search with an early return. The invariant: the bytes before k are at most `most`.
+-- Assumes nothing.
+use mathlib.Core.Path.{_≡_, sym}
+use mathlib.Core.Bool.{true}
+use Prim.Native.Nat.{ℕ, _+_, _-_, _≤_, _<_}
+use native.Mathlib.Omega.{arith}
+use borrow.Author.Count.{below-none, below-more}
+use borrow.Author.Needs.{needs}
+use lib.Dec.{leb}
+use lib.ListN.{getD}
+use Rattle.records.specs.Tests.{cases}
+use Rattle.records.specs.Bounded.{all-of, all-fails}
+use Rattle.sheet.specs.Monitor.{bytesMost}
 use Rattle.sheet.proofs.monitor.bytes_most.Statement.{statement}
 use Rattle.sheet.proofs.monitor.bytes_most.Tie as tie
-use Rattle.sheet.proofs.monitor.bytes_most.Reads as reads
-use Rattle.sheet.proofs.monitor.bytes_most.Lts as lts
 
 abbrev Inv-loop : tie.InvT-loop
-Inv-loop s at n most k₀ k = ?
+Inv-loop s at n most k₀ k = (k ≤ n) × ((j : ℕ) → j < k → leb (getD s (at + j) 0) most ≡ true)
 
 abbrev μ-loop : tie.MeasureT-loop
-μ-loop s at n most k₀ k = ?
+μ-loop s at n most k₀ k = n - k
 
--- src/monitor.rt:60:5
 loop-holds : tie.Need-loop-holds Inv-loop μ-loop
-loop-holds c = ?
+loop-holds c = (omega arith, below-none _)
 
--- src/monitor.rt:61:21
 add-if1 : tie.Need-add-if1 Inv-loop μ-loop
-add-if1 c = ?
+add-if1 c = search needs
 
--- src/monitor.rt:61:19
 shared-slice-read-if1 : tie.Need-shared-slice-read-if1 Inv-loop μ-loop
-shared-slice-read-if1 c = ?
+shared-slice-read-if1 c = search needs
 
--- src/monitor.rt:62:13
 returns : tie.Need-returns Inv-loop μ-loop
-returns c = ?
+unfolding bytesMost
+returns c = sym (all-fails _ _ (c .before .before .before .loop .k) (omega arith) (search cases))
 
--- src/monitor.rt:64:9
 add-k : tie.Need-add-k Inv-loop μ-loop
-add-k c = ?
+add-k c = search needs
 
--- src/monitor.rt:60:5
 loop-less : tie.Need-loop-less Inv-loop μ-loop
-loop-less c = ?
+loop-less c = search needs
 
--- src/monitor.rt:60:5
 loop-again : tie.Need-loop-again Inv-loop μ-loop
-loop-again c = ?
+loop-again c = (omega arith, below-more _ _ (c .before .before .before .loop .inv .1) (search cases))
 
--- src/monitor.rt:55:1
 returns-2 : tie.Need-returns-2 Inv-loop μ-loop
-returns-2 c = ?
+unfolding bytesMost
+returns-2 c = sym (all-of _ _ (λ k l. c .before .loop .inv .1 k (omega arith)))
 
 pub bytes-most-spec : {M : Type 1} → statement M
 bytes-most-spec =

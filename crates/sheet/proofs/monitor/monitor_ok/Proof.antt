@@ -1,108 +1,136 @@
+-- `sheet::monitor::monitor_ok`: the tests in the definition's order; a body whose numbers are in order has room for its tables.
+-- Assumes nothing.
+use mathlib.Core.Path.{_≡_}
+use mathlib.Core.Bool.{true}
+use lib.Dec.{leb}
+use borrow.Author.Tests.{le-leb}
+use native.Mathlib.Omega.{arith}
+use Prim.Native.Nat.{_+_}
+use denote.Ref.{now}
+use lib.ListN.{getD}
+use Rattle.records.specs.Tests.{cases, said-no, said-yes}
+use Rattle.sheet.specs.Monitor.{roleOk, monitorOk}
+use Rattle.sheet.proofs.Facts.{States, states-facts}
 use borrow.Author.Needs.{needs}
 use Rattle.sheet.proofs.monitor.monitor_ok.Statement.{statement}
 use Rattle.sheet.proofs.monitor.monitor_ok.Tie as tie
-use Rattle.sheet.proofs.monitor.monitor_ok.Reads as reads
-use Rattle.sheet.proofs.monitor.monitor_ok.Lts as lts
-use Rattle.sheet.proofs.monitor.bytes_most.Reads as bytes-most-reads
-use Rattle.sheet.proofs.monitor.letters_of.Reads as letters-of-reads
-use Rattle.sheet.proofs.monitor.role_ok.Reads as role-ok-reads
-use Rattle.sheet.proofs.monitor.states_ok.Reads as states-ok-reads
 
--- src/monitor.rt:75:9
+abbrev lettered : tie.After-states-ok → tie.After-letters-of
+lettered c = c .before .before .before
+
+abbrev roled : tie.After-states-ok → tie.Else2
+roled c = lettered c .before .before
+
+abbrev entry : tie.After-states-ok → tie.Start
+entry c = roled c .before .before .before .before .before .before
+
+-- the tests passed before the numbers'
+sized : (c : tie.After-states-ok) → leb 4 (entry c .args .size) ≡ true
+sized c = le-leb 4 (entry c .args .size) (omega arith)
+
+role : (c : tie.After-states-ok)
+    → roleOk (entry c .args .sheet .mode) (getD (now (entry c .args .s)) (entry c .args .start) 0)
+    (getD (now (entry c .args .s)) (entry c .args .start + 1) 0) ≡ true
+role c = said-yes (roled c .before .role-ok .ensures) (roled c .if2 .left)
+
+-- what the numbers' test tells where it was passed
+known : (c : tie.Else3)
+    → States (getD (now (entry (c .before) .args .s)) (entry (c .before) .args .start + 2) 0)
+    (getD (now (entry (c .before) .args .s)) (entry (c .before) .args .start + 3) 0)
+    (lettered (c .before) .letters-of .result) (entry (c .before) .args .size)
+known c = states-facts _ _ _ _ (said-yes (c .before .states-ok .ensures) (c .if3 .left))
+
 returns : tie.Need-returns
-returns c = ?
+unfolding monitorOk
+returns c = search cases
 
--- src/monitor.rt:77:29
 shared-slice-read-role-ok : tie.Need-shared-slice-read-role-ok
 shared-slice-read-role-ok c = search needs
 
--- src/monitor.rt:77:41
 add-role-ok : tie.Need-add-role-ok
 add-role-ok c = search needs
 
--- src/monitor.rt:77:39
 shared-slice-read-role-ok-2 : tie.Need-shared-slice-read-role-ok-2
 shared-slice-read-role-ok-2 c = search needs
 
--- src/monitor.rt:77:9
 role-ok-requires : tie.Need-role-ok-requires
 role-ok-requires c κs = search needs
 
--- src/monitor.rt:78:9
 returns-2 : tie.Need-returns-2
-returns-2 c = ?
+unfolding monitorOk
+returns-2 c = search (cases, said-no (c .before .role-ok .ensures) (c .if2 .taken))
 
--- src/monitor.rt:80:30
 shared-slice-read-letters-of : tie.Need-shared-slice-read-letters-of
 shared-slice-read-letters-of c = search needs
 
--- src/monitor.rt:80:9
 letters-of-requires : tie.Need-letters-of-requires
 letters-of-requires c κs = search needs
 
--- src/monitor.rt:81:20
 add-states : tie.Need-add-states
 add-states c = search needs
 
--- src/monitor.rt:81:18
 shared-slice-read-states : tie.Need-shared-slice-read-states
 shared-slice-read-states c = search needs
 
--- src/monitor.rt:82:29
 add-states-ok : tie.Need-add-states-ok
 add-states-ok c = search needs
 
--- src/monitor.rt:82:27
 shared-slice-read-states-ok : tie.Need-shared-slice-read-states-ok
 shared-slice-read-states-ok c = search needs
 
--- src/monitor.rt:82:9
 states-ok-requires : tie.Need-states-ok-requires
 states-ok-requires c κs = search needs
 
--- src/monitor.rt:83:9
 returns-3 : tie.Need-returns-3
-returns-3 c = ?
+unfolding monitorOk
+returns-3 c = let t = c .before in
+    simp (sized t, role t, ← lettered t .letters-of .ensures .0, said-no (t .states-ok .ensures) (c .if3 .taken))
 
--- src/monitor.rt:85:13
 cast-n : tie.Need-cast-n
-cast-n c = ?
+cast-n c = let h = known c in omega arith
 
--- src/monitor.rt:86:23
 add-bytes-most : tie.Need-add-bytes-most
 add-bytes-most c = search needs
 
--- src/monitor.rt:86:9
 bytes-most-requires : tie.Need-bytes-most-requires
-bytes-most-requires c κs = ?
+bytes-most-requires c κs = let h = known c in omega arith
 
--- src/monitor.rt:87:9
 returns-4 : tie.Need-returns-4
-returns-4 c = ?
+unfolding monitorOk
+returns-4 c = let t = c .before .before .before in
+    simp (
+      sized t,
+      role t,
+      ← lettered t .letters-of .ensures .0,
+      said-yes (t .states-ok .ensures) (c .before .before .if3 .left),
+      said-no (c .before .bytes-most .ensures) (c .if4 .taken),
+    )
 
--- src/monitor.rt:89:19
 add-bytes-most-2 : tie.Need-add-bytes-most-2
 add-bytes-most-2 c = search needs
 
--- src/monitor.rt:89:19
 add-bytes-most-3 : tie.Need-add-bytes-most-3
-add-bytes-most-3 c = ?
+add-bytes-most-3 c = let h = known (c .before .before) in omega arith
 
--- src/monitor.rt:89:34
 mul-bytes-most : tie.Need-mul-bytes-most
-mul-bytes-most c = ?
+mul-bytes-most c = let h = known (c .before .before) in omega arith
 
--- src/monitor.rt:89:47
 sub-bytes-most : tie.Need-sub-bytes-most
-sub-bytes-most c = ?
+sub-bytes-most c = let h = known (c .before .before) in omega arith
 
--- src/monitor.rt:89:5
 bytes-most-requires-2 : tie.Need-bytes-most-requires-2
-bytes-most-requires-2 c κs = ?
+bytes-most-requires-2 c κs = let h = known (c .before .before) in omega arith
 
--- src/monitor.rt:70:1
 returns-5 : tie.Need-returns-5
-returns-5 c = ?
+unfolding monitorOk
+returns-5 c = let t = c .before .before .before .before in
+    simp (
+      sized t,
+      role t,
+      ← lettered t .letters-of .ensures .0,
+      said-yes (t .states-ok .ensures) (c .before .before .before .if3 .left),
+      said-yes (c .before .before .bytes-most .ensures) (c .before .if4 .left),
+    ) (c .bytes-most2 .ensures)
 
 pub monitor-ok-spec : {M : Type 1} → statement M
 monitor-ok-spec =

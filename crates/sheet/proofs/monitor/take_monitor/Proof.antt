@@ -1,49 +1,42 @@
+-- `sheet::monitor::take_monitor`: the tests in the definition's order. Assumes nothing.
+use native.Mathlib.Omega.{arith}
+use Rattle.records.specs.Tests.{cases, said-no, said-yes}
+use Rattle.sheet.specs.Monitor.{takeMonitor}
+use Rattle.sheet.proofs.Facts.{monitor-least}
 use borrow.Author.Needs.{needs}
 use Rattle.sheet.proofs.monitor.take_monitor.Statement.{statement}
 use Rattle.sheet.proofs.monitor.take_monitor.Tie as tie
-use Rattle.sheet.proofs.monitor.take_monitor.Reads as reads
-use Rattle.sheet.proofs.monitor.take_monitor.Lts as lts
-use Rattle.sheet.proofs.layout.Reading.accepted.Reads as accepted-reads
-use Rattle.sheet.proofs.layout.Reading.refused.Reads as refused-reads
-use Rattle.sheet.proofs.layout.Sheet.with_monitor.Reads as with-monitor-reads
-use Rattle.sheet.proofs.monitor.monitor_at.Reads as monitor-at-reads
-use Rattle.sheet.proofs.monitor.monitor_ok.Reads as monitor-ok-reads
 
--- src/monitor.rt:114:9
 refused-requires : tie.Need-refused-requires
 refused-requires c κs = search needs
 
--- src/monitor.rt:114:9
 returns : tie.Need-returns
-returns c = ?
+unfolding takeMonitor
+returns c = search (cases, c .refused .ensures)
 
--- src/monitor.rt:116:9
 monitor-ok-requires : tie.Need-monitor-ok-requires
 monitor-ok-requires c κs = search needs
 
--- src/monitor.rt:117:9
 refused-requires-2 : tie.Need-refused-requires-2
 refused-requires-2 c κs = search needs
 
--- src/monitor.rt:117:9
 returns-2 : tie.Need-returns-2
-returns-2 c = ?
+unfolding takeMonitor
+returns-2 c = search (cases, said-no (c .before .before .monitor-ok .ensures) (c .before .if2 .taken), c .refused2 .ensures)
 
--- src/monitor.rt:119:42
 monitor-at-requires : tie.Need-monitor-at-requires
-monitor-at-requires c κs = ?
+monitor-at-requires c κs = omega (arith, monitor-least _ _ _ _ (said-yes (c .before .monitor-ok .ensures) (c .if2 .left)))
 
--- src/monitor.rt:119:23
 with-monitor-requires : tie.Need-with-monitor-requires
 with-monitor-requires c κs = search needs
 
--- src/monitor.rt:119:5
 accepted-requires : tie.Need-accepted-requires
 accepted-requires c κs = search needs
 
--- src/monitor.rt:109:1
 returns-3 : tie.Need-returns-3
-returns-3 c = ?
+unfolding takeMonitor
+returns-3 c = let t = c .before .before .before in
+    search (cases, said-yes (t .before .monitor-ok .ensures) (t .if2 .left), ← c .before .before .monitor-at .ensures, ← c .before .with-monitor .ensures, c .accepted .ensures)
 
 pub take-monitor-spec : {M : Type 1} → statement M
 take-monitor-spec =

@@ -1,0 +1,2 @@
+-- Laws that several functions use.
+pub mod Facts
