@@ -5,9 +5,9 @@ use mathlib.Core.Bool.{Bool, true, false, cond}
 use mathlib.Core.List.{List}
 use Prim.Native.Nat.{ℕ, _+_, _*_, _≤_, _<_}
 use native.Mathlib.Omega.{arith}
+use borrow.Author.Tests.{leb-true, ltb-true, eqb-true}
 use lib.Dec.{eqb}
 use lib.ListN.{getD}
-use borrow.Author.Tests.{leb-true, ltb-true, eqb-true}
 use Rattle.records.specs.Tests.{and-left, and-right}
 use Rattle.records.specs.Limits.{linesOk, lines-facts}
 use Rattle.sheet.specs.Decoded.{inputsOf}
@@ -62,7 +62,7 @@ pub states-facts : (states start letters size : ℕ) → statesOk states start l
 unfolding statesOk
 states-facts states start letters size e =
     record {
-      states-least = leb-true 1 states (search (and-left, and-right));
+      states-least = leb-true 1 states (search and-left);
       states-most = leb-true states 32 (search (and-left, and-right));
       start-below = ltb-true start states (search (and-left, and-right));
       size-is = eqb-true size (4 + states + states * letters) (search (and-left, and-right));

@@ -1,10 +1,10 @@
 -- `sheet::head::head_ok`: the tests in the definition's order. Assumes nothing.
 use native.Mathlib.Omega.{arith}
 use borrow.Author.Tests.{le-leb}
+use borrow.Author.Needs.{needs}
 use Rattle.records.specs.Tests.{cases, said-no, said-yes}
 use Rattle.sheet.specs.Head.{headOk}
 use Rattle.sheet.proofs.Facts.{numbers-facts}
-use borrow.Author.Needs.{needs}
 use Rattle.sheet.proofs.head.head_ok.Statement.{statement}
 use Rattle.sheet.proofs.head.head_ok.Tie as tie
 

@@ -1,7 +1,7 @@
 -- `sheet::head::inputs_of`: the tests in the definition's order. Assumes nothing.
+use borrow.Author.Needs.{needs}
 use Rattle.records.specs.Tests.{cases}
 use Rattle.sheet.specs.Decoded.{inputsOf}
-use borrow.Author.Needs.{needs}
 use Rattle.sheet.proofs.head.inputs_of.Statement.{statement}
 use Rattle.sheet.proofs.head.inputs_of.Tie as tie
 

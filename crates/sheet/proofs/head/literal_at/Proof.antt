@@ -1,7 +1,7 @@
 -- `sheet::head::literal_at`: the tests in the definition's order. Assumes nothing.
+use borrow.Author.Needs.{needs}
 use Rattle.records.specs.Tests.{cases}
 use Rattle.sheet.specs.Head.{literalAt}
-use borrow.Author.Needs.{needs}
 use Rattle.sheet.proofs.head.literal_at.Statement.{statement}
 use Rattle.sheet.proofs.head.literal_at.Tie as tie
 

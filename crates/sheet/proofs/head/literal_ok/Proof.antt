@@ -1,7 +1,7 @@
 -- `sheet::head::literal_ok`: the tests in the definition's order. Assumes nothing.
+use borrow.Author.Needs.{needs}
 use Rattle.records.specs.Tests.{cases}
 use Rattle.sheet.specs.Head.{literalOk}
-use borrow.Author.Needs.{needs}
 use Rattle.sheet.proofs.head.literal_ok.Statement.{statement}
 use Rattle.sheet.proofs.head.literal_ok.Tie as tie
 

@@ -1,7 +1,7 @@
 -- `sheet::head::numbers_ok`: the tests in the definition's order. Assumes nothing.
+use borrow.Author.Needs.{needs}
 use Rattle.records.specs.Tests.{cases, said-no, said-yes}
 use Rattle.sheet.specs.Head.{numbersOk}
-use borrow.Author.Needs.{needs}
 use Rattle.sheet.proofs.head.numbers_ok.Statement.{statement}
 use Rattle.sheet.proofs.head.numbers_ok.Tie as tie
 

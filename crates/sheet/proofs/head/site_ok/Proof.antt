@@ -1,7 +1,7 @@
 -- `sheet::head::site_ok`: the tests in the definition's order. Assumes nothing.
+use borrow.Author.Needs.{needs}
 use Rattle.records.specs.Tests.{cases}
 use Rattle.sheet.specs.Head.{siteOk}
-use borrow.Author.Needs.{needs}
 use Rattle.sheet.proofs.head.site_ok.Statement.{statement}
 use Rattle.sheet.proofs.head.site_ok.Tie as tie
 

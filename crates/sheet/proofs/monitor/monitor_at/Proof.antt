@@ -1,9 +1,9 @@
 -- `sheet::monitor::monitor_at`: the fields where they stand. Assumes nothing.
-use native.Mathlib.Omega.{arith}
-use Prim.Native.Nat.{_+_}
 use mathlib.Core.Path.{refl}
-use Rattle.sheet.specs.Monitor.{monitorAt}
+use Prim.Native.Nat.{_+_}
+use native.Mathlib.Omega.{arith}
 use borrow.Author.Needs.{needs}
+use Rattle.sheet.specs.Monitor.{monitorAt}
 use Rattle.sheet.proofs.monitor.monitor_at.Statement.{statement}
 use Rattle.sheet.proofs.monitor.monitor_at.Tie as tie
 

@@ -2,16 +2,16 @@
 -- Assumes nothing.
 use mathlib.Core.Path.{_≡_}
 use mathlib.Core.Bool.{true}
-use lib.Dec.{leb}
-use borrow.Author.Tests.{le-leb}
-use native.Mathlib.Omega.{arith}
 use Prim.Native.Nat.{_+_}
+use native.Mathlib.Omega.{arith}
+use borrow.Author.Tests.{le-leb}
+use borrow.Author.Needs.{needs}
 use denote.Ref.{now}
+use lib.Dec.{leb}
 use lib.ListN.{getD}
 use Rattle.records.specs.Tests.{cases, said-no, said-yes}
-use Rattle.sheet.specs.Monitor.{roleOk, monitorOk}
+use Rattle.sheet.specs.Monitor.{roleOk, bytesMost, monitorOk}
 use Rattle.sheet.proofs.Facts.{States, states-facts}
-use borrow.Author.Needs.{needs}
 use Rattle.sheet.proofs.monitor.monitor_ok.Statement.{statement}
 use Rattle.sheet.proofs.monitor.monitor_ok.Tie as tie
 
@@ -39,6 +39,13 @@ known : (c : tie.Else3)
     (getD (now (entry (c .before) .args .s)) (entry (c .before) .args .start + 3) 0)
     (lettered (c .before) .letters-of .result) (entry (c .before) .args .size)
 known c = states-facts _ _ _ _ (said-yes (c .before .states-ok .ensures) (c .if3 .left))
+
+-- each accept byte is held to 1
+accepts : (c : tie.After-bytes-most)
+    → c .bytes-most .result
+    ≡ bytesMost (now (entry (c .before .before) .args .s)) (entry (c .before .before) .args .start + 4)
+    (getD (now (entry (c .before .before) .args .s)) (entry (c .before .before) .args .start + 2) 0) 1
+accepts c = c .bytes-most .ensures
 
 returns : tie.Need-returns
 unfolding monitorOk
@@ -103,7 +110,7 @@ returns-4 c = let t = c .before .before .before in
       role t,
       ← lettered t .letters-of .ensures .0,
       said-yes (t .states-ok .ensures) (c .before .before .if3 .left),
-      said-no (c .before .bytes-most .ensures) (c .if4 .taken),
+      said-no (accepts (c .before)) (c .if4 .taken),
     )
 
 add-bytes-most-2 : tie.Need-add-bytes-most-2
@@ -129,7 +136,7 @@ returns-5 c = let t = c .before .before .before .before in
       role t,
       ← lettered t .letters-of .ensures .0,
       said-yes (t .states-ok .ensures) (c .before .before .before .if3 .left),
-      said-yes (c .before .before .bytes-most .ensures) (c .before .if4 .left),
+      said-yes (accepts (c .before .before)) (c .before .if4 .left),
     ) (c .bytes-most2 .ensures)
 
 pub monitor-ok-spec : {M : Type 1} → statement M

@@ -1,11 +1,11 @@
 -- `sheet::monitor::states_ok`: the tests in the definition's order; 32 states and 64 letters make a size that fits.
 -- Assumes nothing.
+use Prim.Native.Nat.{_*_, _≤_}
 use native.Mathlib.Omega.{arith}
 use native.Mathlib.Nat.{mul-le-mul}
-use Prim.Native.Nat.{_*_, _≤_}
+use borrow.Author.Needs.{needs}
 use Rattle.records.specs.Tests.{cases}
 use Rattle.sheet.specs.Monitor.{statesOk}
-use borrow.Author.Needs.{needs}
 use Rattle.sheet.proofs.monitor.states_ok.Statement.{statement}
 use Rattle.sheet.proofs.monitor.states_ok.Tie as tie
 

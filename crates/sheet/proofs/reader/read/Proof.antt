@@ -1,9 +1,10 @@
 -- `sheet::reader::read`: the first record is a head, and the walk goes on from it. Assumes nothing.
 use mathlib.Core.Path.{_≡_}
-use mathlib.Core.Bool.{false}
+use mathlib.Core.Bool.{true, false}
 use mathlib.Core.Logic.{⊎-elim}
 use native.Mathlib.Omega.{arith}
-use borrow.Author.Tests.{ne-eqb}
+use borrow.Author.Tests.{eq-eqb, ne-eqb}
+use borrow.Author.Needs.{needs}
 use denote.Ref.{now}
 use lib.Dec.{eqb}
 use Rattle.records.specs.Tests.{said}
@@ -11,7 +12,6 @@ use Rattle.records.specs.Cursor.{readAt, lies}
 use Rattle.records.specs.declared.cursor.Found.the-variants as found
 use Rattle.sheet.specs.Reader.{reading, firstFound}
 use Rattle.sheet.proofs.Walk.{head-lines}
-use borrow.Author.Needs.{needs}
 use Rattle.sheet.proofs.reader.read.Statement.{statement}
 use Rattle.sheet.proofs.reader.read.Tie as tie
 
@@ -24,7 +24,10 @@ here : (c : tie.After-kind)
     ≡ found.Record (c .kind .given .0 .0) (c .kind .given .0 .1 .0) (c .kind .given .0 .1 .1 .0) (c .kind .given .0 .1 .1 .1 .0)
 here c = rw (begun c .first .ensures) at (said (c .before .before .read .ensures) (c .kind .given .1))
 
--- a kind that is not a head's
+-- a head's kind, and any other
+is-head : (c : tie.At-match2-keys1) → eqb (c .before .before .kind .given .0 .0) 1 ≡ true
+is-head c = eq-eqb (c .before .before .kind .given .0 .0) 1 (omega arith)
+
 other : (c : tie.At-match2-came) → eqb (c .before .before .kind .given .0 .0) 1 ≡ false
 other c = ne-eqb (c .before .before .kind .given .0 .0) 1 (λ z. ⊎-elim (λ w. omega arith) (λ w. omega arith) (c .match2 .came))
 
@@ -82,12 +85,12 @@ returns-2 c = let f = c .before .before .before in
 returns-3 : tie.Need-returns-3
 unfolding reading firstFound
 returns-3 c = let t = c .before .before .before .before in
-    simp (here (t .before .before .before), t .before .match2 .keys1, ← t .read-head .ensures, c .before .before .enum-told3 .given .1) (c .read-records .ensures)
+    simp (here (t .before .before .before), is-head (t .before), ← t .read-head .ensures, c .before .before .enum-told3 .given .1) (c .read-records .ensures)
 
 returns-4 : tie.Need-returns-4
 unfolding reading firstFound
 returns-4 c = let t = c .before .before .before .before in
-    simp (here (t .before .before .before), t .before .match2 .keys1, ← t .read-head .ensures, c .before .before .verdict .given .1) (c .refused3 .ensures)
+    simp (here (t .before .before .before), is-head (t .before), ← t .read-head .ensures, c .before .before .verdict .given .1) (c .refused3 .ensures)
 
 returns-5 : tie.Need-returns-5
 unfolding reading firstFound

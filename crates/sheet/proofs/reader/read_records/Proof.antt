@@ -1,13 +1,13 @@
 -- `sheet::reader::read_records`: a walk over records. The invariant: from here the walk gives what it gives from the head on.
 -- Assumes nothing.
-use denote.Ref.{now}
-use Rattle.records.specs.Cursor.{readAt, lies}
-use Rattle.records.specs.declared.cursor.Found.the-variants as found
 use mathlib.Core.Path.{_≡_, _∙_}
 use Prim.Native.Nat.{_-_}
 use native.Mathlib.Omega.{arith}
 use borrow.Author.Needs.{needs}
+use denote.Ref.{now}
 use lib.ListN.{length}
+use Rattle.records.specs.Cursor.{readAt, lies}
+use Rattle.records.specs.declared.cursor.Found.the-variants as found
 use Rattle.records.specs.Tests.{said}
 use Rattle.sheet.proofs.Walk.{Walked, begin, ended, cut, stopped, more}
 use Rattle.sheet.proofs.reader.read_records.Statement.{statement}
