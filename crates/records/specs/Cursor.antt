@@ -1,6 +1,6 @@
 -- Records: a two-byte length of the body, a two-byte kind, then the body. A cursor finds one at a time.
 -- Assumes nothing.
-use mathlib.Core.Path.{_≡_}
+use mathlib.Core.Path.{_≡_, ap}
 use mathlib.Core.Bool.{cond}
 use mathlib.Core.List.{List, _++_}
 use Prim.Native.Nat.{ℕ, _+_, _-_, _*_, _≤_}
@@ -57,6 +57,21 @@ read-cases s at end short found =
     (λ f. by-test (ltb (length s - (at + 4)) (u16At s at)) (λ g. short (rw (e, f, g)))
     (λ g. found (rw (e, f, g))
     (omega (arith, leb-false (length s) at e, ltb-false (length s - at) 4 f, ltb-false (length s - (at + 4)) (u16At s at) g)))))
+
+-- a record that was found lies where the cursor stood
+pub lies : (s : List ℕ) (at : ℕ) {kind start size : ℕ} {next : Cursor} → readAt s at ≡ Record kind start size next
+    → Lies s at kind start size next
+lies s at {kind} {start} {size} {next} e =
+    read-cases s at
+    (λ f h. absurd (let z : _≡_ {A = ℕ} 0 1 = cc in omega arith))
+    (λ f. absurd (let z : _≡_ {A = ℕ} 0 1 = cc in omega arith))
+    (λ f h.
+    let k : kind ≡ u16At s (at + 2) = cc in
+    let b : start ≡ at + 4 = cc in
+    let z : size ≡ u16At s at = cc in
+    let n : next ≡ record { at = at + 4 + u16At s at } = cc in
+    let m : next .at ≡ at + 4 + u16At s at = ap (λ (x : Cursor). x .at) n in
+    record { is-kind = k; is-start = b; is-size = z; is-next = omega arith; inside = omega arith })
 
 -- at the end of the bytes
 pub read-end : (s : List ℕ) (at : ℕ) → length s ≤ at → readAt s at ≡ End
