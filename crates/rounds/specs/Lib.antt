@@ -1,2 +1,4 @@
 -- The rounds that drop lost states, over a table of steps.
 pub mod Rounds
+pub mod InPlace
+pub mod Laws
