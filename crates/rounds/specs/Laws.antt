@@ -15,14 +15,8 @@ use lib.ListN.{length, getD}
 use borrow.Author.Tests.{eqb-true, eqb-false, ne-eqb, eq-eqb}
 use Rattle.records.specs.Tests.{both-ways, by-test, and-left, and-right}
 use Rattle.records.specs.Bounded.{all, any, count, all-cong, any-cong, count-le, count-mono, count-tight}
-use Rattle.records.specs.Lists.{put, put-ext, length-put, getD-put-front, getD-put-rest}
+use Rattle.records.specs.Lists.{put, put-ext, put-self, length-put, getD-put-front, getD-put-rest}
 use Rattle.rounds.specs.Rounds.{Steps, isBroken, cellAt, isIn, leadsIn, answered, stays, entryAfter, round, rounds, settled, keptCount}
-
-put-self : (d : List ℕ) (n : ℕ) → put d n (λ k. getD d k 0) ≡ d
-unfolding put
-put-self [] n = refl
-put-self (x ∷ d) zero = refl
-put-self (x ∷ d) (suc n) = ap (λ (t : List ℕ). x ∷ t) (put-self d n)
 
 -- ---- the table of steps
 
@@ -133,6 +127,13 @@ module _ (cells : List ℕ) (n inputs outputs : ℕ) (memory : List ℕ) where
   stable-late r stable zero = rw add-zero
   stable-late r stable (suc j) =
       rw (add-suc, stable-late r stable j) (stable-round cells n inputs outputs (suc (r + j)) _ stable)
+
+  -- if round r + 1 drops nothing, the rounds end with r
+  pub stable-settled : (r : ℕ) → r ≤ n → Stable cells n inputs outputs (after r) → after r ≡ settled cells n inputs outputs memory
+  unfolding settled
+  stable-settled r h stable =
+      let e : n ≡ r + (n - r) = omega arith in
+      sym (stable-late r stable (n - r)) ∙ ap after (sym e)
 
   module _ (room : n ≤ length memory) where
     room-after : (r : ℕ) → n ≤ length (after r)

@@ -2,3 +2,4 @@
 pub mod Rounds
 pub mod InPlace
 pub mod Laws
+pub mod Masks

@@ -1,45 +1,41 @@
+-- `rounds::all_in`: the entries before k are 0. Assumes nothing.
+use mathlib.Core.Path.{_≡_, sym, _∙_}
+use Prim.Native.Nat.{_≤_, _-_}
+use native.Mathlib.Omega.{arith}
+use lib.ListN.{length}
+use Rattle.records.specs.Lists.{put, put-none, put-more, length-put}
 use Rattle.rounds.proofs.all_in.Statement.{statement}
 use Rattle.rounds.proofs.all_in.Tie as tie
-use Rattle.rounds.proofs.all_in.Reads as reads
-use Rattle.rounds.proofs.all_in.Lts as lts
 
 abbrev Inv-loop : tie.InvT-loop
-Inv-loop dropped₀ n k₀ dropped k = ?
+Inv-loop dropped₀ n k₀ dropped k = (k ≤ n) × (dropped ≡ put dropped₀ k (λ j. 0))
 
 abbrev μ-loop : tie.MeasureT-loop
-μ-loop dropped₀ n k₀ dropped k = ?
+μ-loop dropped₀ n k₀ dropped k = n - k
 
--- src/lib.rt:153:5
 loop-holds : tie.Need-loop-holds Inv-loop μ-loop
-loop-holds c = ?
+loop-holds c = (omega arith, sym (put-none _ _))
 
--- src/lib.rt:154:9
 mul-dropped : tie.Need-mul-dropped Inv-loop μ-loop
-mul-dropped c = ?
+mul-dropped c = omega arith
 
--- src/lib.rt:154:9
 slice-write-dropped : tie.Need-slice-write-dropped Inv-loop μ-loop
-slice-write-dropped c = ?
+slice-write-dropped c = rw (c .before .loop .inv .1, length-put) (omega arith)
 
--- src/lib.rt:155:9
 add-k : tie.Need-add-k Inv-loop μ-loop
-add-k c = ?
+add-k c = omega arith
 
--- src/lib.rt:153:5
 loop-less : tie.Need-loop-less Inv-loop μ-loop
-loop-less c = ?
+loop-less c = omega arith
 
--- src/lib.rt:153:5
 loop-again : tie.Need-loop-again Inv-loop μ-loop
-loop-again c = ?
+loop-again c = (omega arith, rw (c .before .loop .inv .1) (put-more _ _ _))
 
--- src/lib.rt:148:1
 same-length : tie.Need-same-length Inv-loop μ-loop
-same-length c = ?
+same-length c = rw (c .before .loop .inv .1, length-put)
 
--- src/lib.rt:148:1
 returns : tie.Need-returns Inv-loop μ-loop
-returns c = ?
+returns c = let e : c .before .loop .k ≡ c .before .before .args .n = omega arith in c .before .loop .inv .1 ∙ rw e
 
 pub all-in-spec : {M : Type 1} → statement M
 all-in-spec =

@@ -1,32 +1,33 @@
+-- `rounds::cell_at`: the cell lies in the state's row, whose end fits. Assumes nothing.
+use native.Mathlib.Omega.{arith}
+use mathlib.Core.Path.{refl}
+use Rattle.rounds.specs.Rounds.{cellAt}
+use Rattle.rounds.specs.Laws.{cell-in-row}
 use borrow.Author.Needs.{needs}
 use Rattle.rounds.proofs.cell_at.Statement.{statement}
 use Rattle.rounds.proofs.cell_at.Tie as tie
-use Rattle.rounds.proofs.cell_at.Reads as reads
-use Rattle.rounds.proofs.cell_at.Lts as lts
 
--- src/lib.rt:35:10
 mul-result : tie.Need-mul-result
 mul-result c = search needs
 
--- src/lib.rt:35:5
 mul-result-2 : tie.Need-mul-result-2
 mul-result-2 c = search needs
 
--- src/lib.rt:35:35
 mul-result-3 : tie.Need-mul-result-3
-mul-result-3 c = ?
+unfolding cellAt
+mul-result-3 c = omega (arith, cell-in-row (c .args .inputs) (c .args .outputs) (c .args .k) (c .pre .0 .0) (c .pre .0 .1))
 
--- src/lib.rt:35:31
 add-result : tie.Need-add-result
-add-result c = ?
+unfolding cellAt
+add-result c = omega (arith, cell-in-row (c .args .inputs) (c .args .outputs) (c .args .k) (c .pre .0 .0) (c .pre .0 .1))
 
--- src/lib.rt:35:5
 add-result-2 : tie.Need-add-result-2
-add-result-2 c = ?
+unfolding cellAt
+add-result-2 c = omega (arith, cell-in-row (c .args .inputs) (c .args .outputs) (c .args .k) (c .pre .0 .0) (c .pre .0 .1))
 
--- src/lib.rt:30:1
 returns : tie.Need-returns
-returns c = ?
+unfolding cellAt
+returns c = refl
 
 pub cell-at-spec : {M : Type 1} → statement M
 cell-at-spec =

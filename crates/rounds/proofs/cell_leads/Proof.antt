@@ -1,45 +1,54 @@
+-- `rounds::cell_leads`: a broken step, one to a state that the round has dropped, one to another. Assumes nothing.
+use Prim.Native.Nat.{_<_}
+use native.Mathlib.Omega.{arith}
+use borrow.Author.Tests.{eqb-false}
+use lib.ListN.{length, getD}
+use mathlib.Core.Path.{_≡_}
+use mathlib.Core.Bool.{false}
+use Rattle.records.specs.Tests.{said}
+use Rattle.rounds.specs.Rounds.{isBroken, isIn}
+use Rattle.rounds.proofs.Start.{leads-broken, leads-back, leads-else}
 use borrow.Author.Needs.{needs}
 use Rattle.rounds.proofs.cell_leads.Statement.{statement}
 use Rattle.rounds.proofs.cell_leads.Tie as tie
-use Rattle.rounds.proofs.cell_leads.Reads as reads
-use Rattle.rounds.proofs.cell_leads.Lts as lts
-use Rattle.rounds.proofs.cell_is_broken.Reads as cell-is-broken-reads
 
--- src/lib.rt:51:16
+abbrev entry : tie.Else1 → tie.Start
+entry c = c .before .before .before .before .before
+
+-- past the first test the step is unbroken, and leads to a state that has an entry
+unbroken : (c : tie.Else1) → isBroken (getD (entry c .args .cells .now) (entry c .args .at) 0) ≡ false
+unbroken c = said (c .before .cell-is-broken .ensures) (c .if1 .left)
+
+target : (c : tie.Else1) → getD (entry c .args .cells .now) (entry c .args .at) 0 < length (entry c .args .dropped .now)
+target c = entry c .pre .target (eqb-false _ _ (unbroken c))
+
 mul-cell : tie.Need-mul-cell
 mul-cell c = search needs
 
--- src/lib.rt:51:16
 shared-slice-read-cell : tie.Need-shared-slice-read-cell
 shared-slice-read-cell c = search needs
 
--- src/lib.rt:52:8
 cell-is-broken-requires : tie.Need-cell-is-broken-requires
 cell-is-broken-requires c κs = search needs
 
--- src/lib.rt:53:9
 returns : tie.Need-returns
-returns c = ?
+returns c = leads-broken _ _ _ _ (said (c .before .cell-is-broken .ensures) (c .if1 .taken))
 
--- src/lib.rt:55:30
 cast-dropped-by : tie.Need-cast-dropped-by
-cast-dropped-by c = ?
+cast-dropped-by c = omega (arith, target c)
 
--- src/lib.rt:55:22
 mul-dropped-by : tie.Need-mul-dropped-by
-mul-dropped-by c = ?
+mul-dropped-by c = omega (arith, target c)
 
--- src/lib.rt:55:22
 shared-slice-read-dropped-by : tie.Need-shared-slice-read-dropped-by
-shared-slice-read-dropped-by c = ?
+shared-slice-read-dropped-by c = target (c .before)
 
--- src/lib.rt:57:9
 returns-2 : tie.Need-returns-2
-returns-2 c = ?
+returns-2 c = leads-back _ _ _ _ (unbroken (c .before .before)) (target (c .before .before)) (c .if2 .taken)
 
--- src/lib.rt:47:1
 returns-3 : tie.Need-returns-3
-returns-3 c = ?
+unfolding isIn
+returns-3 c = leads-else _ _ _ _ (unbroken (c .before .before)) (target (c .before .before)) (c .if2 .left)
 
 pub cell-leads-spec : {M : Type 1} → statement M
 cell-leads-spec =

@@ -1,65 +1,83 @@
+-- `rounds::state_stays`: the inputs before i have a step to a state that was in; the outputs before o have none at input i.
+-- Assumes nothing.
+use mathlib.Core.Path.{_≡_, sym, _∙_}
+use mathlib.Core.Bool.{Bool, true, false}
+use mathlib.Core.Logic.{⊎-elim}
+use Prim.Native.Nat.{ℕ, _+_, _-_, _*_, _≤_, _<_}
+use native.Mathlib.Omega.{arith}
+use borrow.Author.Count.{below-none, below-more}
+use lib.ListN.{length, getD}
+use Rattle.records.specs.Tests.{said}
+use Rattle.records.specs.Bounded.{all, all-none, all-more, any-of}
+use Rattle.rounds.specs.Rounds.{cellAt, leadsIn, answered}
+use Rattle.rounds.specs.InPlace.{atStart, Leads}
+use Rattle.rounds.proofs.Rows.{row-fits, cell-leads-on, all-passed, one-failed}
 use Rattle.rounds.proofs.state_stays.Statement.{statement}
 use Rattle.rounds.proofs.state_stays.Tie as tie
-use Rattle.rounds.proofs.state_stays.Reads as reads
-use Rattle.rounds.proofs.state_stays.Lts as lts
-use Rattle.rounds.proofs.cell_at.Reads as cell-at-reads
-use Rattle.rounds.proofs.cell_leads.Reads as cell-leads-reads
 
 abbrev Inv-search : tie.InvT-search
-Inv-search cells dropped n inputs outputs k round i o₀ o = ?
+Inv-search cells dropped n inputs outputs k round i o₀ o = (o ≤ outputs) × ((p : ℕ) → p < o → leadsIn cells (atStart round dropped) (cellAt inputs outputs k i p) ≡ false)
 
 abbrev μ-search : tie.MeasureT-search
-μ-search cells dropped n inputs outputs k round i o₀ o = ?
+μ-search cells dropped n inputs outputs k round i o₀ o = outputs - o
 
 abbrev Inv-inputs : tie.InvT-inputs
-Inv-inputs cells dropped n inputs outputs k round i₀ i = ?
+Inv-inputs cells dropped n inputs outputs k round i₀ i = (i ≤ inputs) × (all i (answered cells (atStart round dropped) inputs outputs k) ≡ true)
 
 abbrev μ-inputs : tie.MeasureT-inputs
-μ-inputs cells dropped n inputs outputs k round i₀ i = ?
+μ-inputs cells dropped n inputs outputs k round i₀ i = inputs - i
 
--- src/lib.rt:85:5
+-- the places that the needs look back to
+abbrev entry : tie.In-search Inv-search μ-search Inv-inputs μ-inputs → tie.Start Inv-search μ-search Inv-inputs μ-inputs
+entry c = c .before .before .before .before .before .before
+
+-- what the search saw at its cell
+looked : (c : tie.After-cell-leads Inv-search μ-search Inv-inputs μ-inputs) {b : Bool} → c .cell-leads .result ≡ b →
+    let a = entry (c .before .before) .args in
+    leadsIn (a .cells .now) (atStart (a .round) (a .dropped .now))
+        (cellAt (a .inputs) (a .outputs) (a .k) (c .before .before .before .before .before .inputs .i) (c .before .before .before .search .o))
+    ≡ b
+looked c e = rw (← c .before .cell-at .ensures) (said (c .cell-leads .ensures) e)
+
 inputs-holds : tie.Need-inputs-holds Inv-search μ-search Inv-inputs μ-inputs
-inputs-holds c = ?
+inputs-holds c = (omega arith, all-none _)
 
--- src/lib.rt:87:9
 search-holds : tie.Need-search-holds Inv-search μ-search Inv-inputs μ-inputs
-search-holds c = ?
+search-holds c = (omega arith, below-none _)
 
--- src/lib.rt:91:50
 cell-at-requires : tie.Need-cell-at-requires Inv-search μ-search Inv-inputs μ-inputs
-cell-at-requires c κs = ?
+cell-at-requires c κs = ((c .before .before .inputs-test .taken, c .search-test .left), omega (arith, row-fits (entry c .pre .0) (entry c .pre .1 .1)))
 
--- src/lib.rt:91:16
 cell-leads-requires : tie.Need-cell-leads-requires Inv-search μ-search Inv-inputs μ-inputs
-cell-leads-requires c κs = ?
+cell-leads-requires c κs = cell-leads-on (entry (c .before) .pre .0) _ (entry (c .before) .pre .1 .0) (entry (c .before) .pre .1 .1)
+    (c .before .before .before .inputs-test .taken) (c .before .search-test .left) (c .cell-at .ensures)
 
--- src/lib.rt:94:13
 add-o : tie.Need-add-o Inv-search μ-search Inv-inputs μ-inputs
-add-o c = ?
+add-o c = omega arith
 
--- src/lib.rt:87:9
 search-less : tie.Need-search-less Inv-search μ-search Inv-inputs μ-inputs
-search-less c = ?
+search-less c = omega arith
 
--- src/lib.rt:87:9
 search-again : tie.Need-search-again Inv-search μ-search Inv-inputs μ-inputs
-search-again c = ?
+search-again c = (omega arith, below-more _ _ (c .before .before .before .before .search .inv .1) (looked (c .before) (c .if1 .left)))
 
--- src/lib.rt:96:9
 add-i : tie.Need-add-i Inv-search μ-search Inv-inputs μ-inputs
-add-i c = ?
+add-i c = omega arith
 
--- src/lib.rt:85:5
 inputs-less : tie.Need-inputs-less Inv-search μ-search Inv-inputs μ-inputs
-inputs-less c = ?
+inputs-less c = omega arith
 
--- src/lib.rt:85:5
 inputs-again : tie.Need-inputs-again Inv-search μ-search Inv-inputs μ-inputs
-inputs-again c = ?
+unfolding answered
+inputs-again c = (
+  omega arith,
+  all-more _ _ (c .before .before .before .before .before .before .inputs .inv .1)
+      (any-of _ _ _ (c .before .before .before .search-test .left) (looked (c .before) (c .if1 .taken))),
+)
 
--- src/lib.rt:71:1
 returns : tie.Need-returns Inv-search μ-search Inv-inputs μ-inputs
-returns c = ?
+returns c = ⊎-elim (λ w. all-passed _ _ _ _ _ (c .before .inputs .inv .0) (w .left) (c .before .inputs .inv .1))
+    (λ w. one-failed _ _ _ _ _ (w .0 .taken) (w .2 .taken) (w .1 .inv .1)) (c .inputs-test .came)
 
 pub state-stays-spec : {M : Type 1} → statement M
 state-stays-spec =
