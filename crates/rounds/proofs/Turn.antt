@@ -78,9 +78,11 @@ module _ {cells : List ℕ} {n inputs outputs r : ℕ} {before now : List ℕ} {
     unfolding drops isIn
     drops-here = rw (here, stays-cong table (atStart r now) before at-start k l)
 
-    pub drop : drops cells inputs outputs r now k ≡ true → Turn cells n inputs outputs r before (set now k r) (lost + 1) (k + 1)
+    -- the two ways of a turn
+    pub drop : drops cells inputs outputs r now k ≡ true → {then : List ℕ} {more : ℕ} → then ≡ set now k r → more ≡ lost + 1
+        → Turn cells n inputs outputs r before then more (k + 1)
     unfolding entryAfter
-    drop y =
+    drop y p q =
         let E : ℕ → ℕ = entryAfter cells inputs outputs r before in
         let d : isIn before k && not (stays cells before inputs outputs k) ≡ true = sym drops-here ∙ y in
         let f : E k ≡ r = rw d in
@@ -88,13 +90,14 @@ module _ {cells : List ℕ} {n inputs outputs r : ℕ} {before now : List ℕ} {
         let was : _≡_ {A = ℕ} (cond (isIn before k) 1 0) 1 = rw (and-left (isIn before k) _ d) in
         record {
           within = omega arith;
-          so-far = ap (set now k) (sym f) ∙ ap (λ (t : List ℕ). set t k (E k)) (inv .so-far) ∙ put-more before k E;
+          so-far = p ∙ ap (set now k) (sym f) ∙ ap (λ (t : List ℕ). set t k (E k)) (inv .so-far) ∙ put-more before k E;
           counted = omega (arith, inv .counted, count-more k (λ j. eqb (E j) 0), count-more k (isIn before), out, was);
         }
 
-    pub keep : drops cells inputs outputs r now k ≡ false → Turn cells n inputs outputs r before now lost (k + 1)
+    pub keep : drops cells inputs outputs r now k ≡ false → {then : List ℕ} {more : ℕ} → then ≡ now → more ≡ lost
+        → Turn cells n inputs outputs r before then more (k + 1)
     unfolding entryAfter
-    keep y =
+    keep y p q =
         let E : ℕ → ℕ = entryAfter cells inputs outputs r before in
         let d : isIn before k && not (stays cells before inputs outputs k) ≡ false = sym drops-here ∙ y in
         let f : E k ≡ getD before k 0 = rw d in
@@ -102,7 +105,7 @@ module _ {cells : List ℕ} {n inputs outputs r : ℕ} {before now : List ℕ} {
         record {
           within = omega arith;
           so-far =
-              sym (set-getD now k 0) ∙ ap (set now k) (here ∙ sym f) ∙ ap (λ (t : List ℕ). set t k (E k)) (inv .so-far)
+              p ∙ sym (set-getD now k 0) ∙ ap (set now k) (here ∙ sym f) ∙ ap (λ (t : List ℕ). set t k (E k)) (inv .so-far)
               ∙ put-more before k E;
           counted = omega (arith, inv .counted, count-more k (λ j. eqb (E j) 0), count-more k (isIn before), is);
         }

@@ -54,7 +54,7 @@ shl-mask : tie.Need-shl-mask Inv-loop μ-loop
 shl-mask c = omega arith
 
 add-mask : tie.Need-add-mask Inv-loop μ-loop
-add-mask c = fits (c .before .before .before .before .loop .inv) (c .before .before .before .loop-test .taken) (omega arith)
+add-mask c = omega (arith, fits (c .before .before .before .before .loop .inv) (c .before .before .before .loop-test .taken) (omega arith))
 
 add-o : tie.Need-add-o Inv-loop μ-loop
 add-o c = omega arith

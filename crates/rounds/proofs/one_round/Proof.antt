@@ -1,54 +1,53 @@
+-- `rounds::one_round`: the states before k have their entries after the round. Assumes nothing.
+use Prim.Native.Nat.{_-_}
+use mathlib.Core.Path.{sym, _∙_}
+use mathlib.Core.Logic.{⊎-elim}
+use native.Mathlib.Omega.{arith}
+use Rattle.records.specs.Tests.{said}
+use Rattle.rounds.proofs.Turn.{Turn, begin, same, lost-most, drop, keep, end}
 use Rattle.rounds.proofs.one_round.Statement.{statement}
 use Rattle.rounds.proofs.one_round.Tie as tie
-use Rattle.rounds.proofs.one_round.Reads as reads
-use Rattle.rounds.proofs.one_round.Lts as lts
-use Rattle.rounds.proofs.round_drops.Reads as round-drops-reads
 
 abbrev Inv-loop : tie.InvT-loop
-Inv-loop cells dropped₀ n inputs outputs round lost₀ k₀ dropped lost k = ?
+Inv-loop cells dropped₀ n inputs outputs round lost₀ k₀ dropped lost k = Turn cells n inputs outputs round dropped₀ dropped lost k
 
 abbrev μ-loop : tie.MeasureT-loop
-μ-loop cells dropped₀ n inputs outputs round lost₀ k₀ dropped lost k = ?
+μ-loop cells dropped₀ n inputs outputs round lost₀ k₀ dropped lost k = n - k
 
--- src/lib.rt:137:5
 loop-holds : tie.Need-loop-holds Inv-loop μ-loop
-loop-holds c = ?
+loop-holds c = begin _ _ _ _ _ _
 
--- src/lib.rt:138:12
 round-drops-requires : tie.Need-round-drops-requires Inv-loop μ-loop
-round-drops-requires c κs = ?
+round-drops-requires c κs = let start = c .before .before .before .before .before in
+    (start .pre .0, (omega (arith, same (c .before .before .loop .inv), start .pre .1 .0), c .before .loop-test .taken))
 
--- src/lib.rt:139:13
 mul-dropped : tie.Need-mul-dropped Inv-loop μ-loop
-mul-dropped c = ?
+mul-dropped c = omega (arith, same (c .before .before .before .before .loop .inv))
 
--- src/lib.rt:139:13
 slice-write-dropped : tie.Need-slice-write-dropped Inv-loop μ-loop
-slice-write-dropped c = ?
+slice-write-dropped c = omega (arith, same (c .before .before .before .before .loop .inv))
 
--- src/lib.rt:140:13
 add-lost : tie.Need-add-lost Inv-loop μ-loop
-add-lost c = ?
+add-lost c = omega (arith, lost-most (c .before .before .before .before .loop .inv))
 
--- src/lib.rt:142:9
 add-k : tie.Need-add-k Inv-loop μ-loop
-add-k c = ?
+add-k c = omega arith
 
--- src/lib.rt:137:5
 loop-less : tie.Need-loop-less Inv-loop μ-loop
-loop-less c = ?
+loop-less c = omega arith
 
--- src/lib.rt:137:5
 loop-again : tie.Need-loop-again Inv-loop μ-loop
-loop-again c = ?
+loop-again c = let pre = c .before .before .before .before .before .before .before .pre in
+    let at = c .before .before .before .before .loop .inv in
+    let in-range = c .before .before .before .loop-test .taken in
+    ⊎-elim (λ w. drop at (pre .0) (pre .1 .0) (pre .1 .1) in-range (said (c .before .round-drops .ensures) (w .0 .taken)) (w .1) (w .2))
+    (λ w. keep at (pre .0) (pre .1 .0) (pre .1 .1) in-range (said (c .before .round-drops .ensures) (w .0 .left)) (w .1) (w .2)) (c .if1 .came)
 
--- src/lib.rt:122:1
 same-length : tie.Need-same-length Inv-loop μ-loop
-same-length c = ?
+same-length c = same (c .before .loop .inv)
 
--- src/lib.rt:122:1
 returns : tie.Need-returns Inv-loop μ-loop
-returns c = ?
+returns c = end (c .before .loop .inv) (c .before .before .before .before .pre .1 .0) (c .loop-test .left)
 
 pub one-round-spec : {M : Type 1} → statement M
 one-round-spec =

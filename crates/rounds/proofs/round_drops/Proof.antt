@@ -1,26 +1,25 @@
+-- `rounds::round_drops`: the two tests, in the definition's order. Assumes nothing.
+use mathlib.Core.Path.{sym, ap, _∙_}
+use mathlib.Core.Bool.{not}
+use Rattle.records.specs.Tests.{said-no, said-yes}
+use Rattle.rounds.specs.InPlace.{drops}
 use borrow.Author.Needs.{needs}
 use Rattle.rounds.proofs.round_drops.Statement.{statement}
 use Rattle.rounds.proofs.round_drops.Tie as tie
-use Rattle.rounds.proofs.round_drops.Reads as reads
-use Rattle.rounds.proofs.round_drops.Lts as lts
-use Rattle.rounds.proofs.is_kept.Reads as is-kept-reads
-use Rattle.rounds.proofs.state_stays.Reads as state-stays-reads
 
--- src/lib.rt:115:9
 is-kept-requires : tie.Need-is-kept-requires
 is-kept-requires c κs = search needs
 
--- src/lib.rt:116:9
 returns : tie.Need-returns
-returns c = ?
+unfolding drops
+returns c = rw (said-no (c .before .is-kept .ensures) (c .if1 .taken))
 
--- src/lib.rt:118:6
 state-stays-requires : tie.Need-state-stays-requires
 state-stays-requires c κs = search needs
 
--- src/lib.rt:102:1
 returns-2 : tie.Need-returns-2
-returns-2 c = ?
+unfolding drops
+returns-2 c = rw (said-yes (c .before .before .is-kept .ensures) (c .before .if1 .left)) (ap not (c .state-stays .ensures))
 
 pub round-drops-spec : {M : Type 1} → statement M
 round-drops-spec = tie.close (tie.spec is-kept-requires returns state-stays-requires returns-2)
