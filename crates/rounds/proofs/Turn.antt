@@ -52,13 +52,14 @@ module _ {cells : List ℕ} {n inputs outputs r : ℕ} {before now : List ℕ} {
     entry-now : (q : ℕ) → q < n → (getD now q 0 ≡ getD before q 0) ⊎ ((getD now q 0 ≡ r) × (isIn before q ≡ true))
     unfolding entryAfter
     entry-now q h =
-        elim (decLt q k)
-        [ yes u ↦
-          let e : getD now q 0 ≡ entryAfter cells inputs outputs r before q =
-          rw (inv .so-far) (getD-put-front before k _ q 0 u (omega arith)) in
-          by-test (isIn before q && not (stays cells before inputs outputs q))
-          (λ y. inr (e ∙ rw y, and-left _ _ y)) (λ y. inl (e ∙ rw y))
-        | no u ↦ inl (rw (inv .so-far) (getD-put-rest before k _ q 0 (omega arith))) ]
+        elim (decLt q k) [
+          | yes u ↦
+              let e : getD now q 0 ≡ entryAfter cells inputs outputs r before q =
+              rw (inv .so-far) (getD-put-front before k _ q 0 u (omega arith)) in
+              by-test (isIn before q && not (stays cells before inputs outputs q))
+              (λ y. inr (e ∙ rw y, and-left _ _ y)) (λ y. inl (e ∙ rw y))
+          | no u ↦ inl (rw (inv .so-far) (getD-put-rest before k _ q 0 (omega arith)))
+        ]
 
     at-start : (q : ℕ) → q < n → isIn (atStart r now) q ≡ isIn before q
     unfolding isIn

@@ -189,9 +189,10 @@ module _ (cells : List ℕ) (n inputs outputs : ℕ) (memory : List ℕ) where
         → Stable cells n inputs outputs (after r) ⊎ (keptCount n (after (suc r)) + suc r ≤ n)
     unfolding rounds
     one-less r h =
-        elim (decLt (keptCount n (after (suc r))) (keptCount n (after r)))
-        [ yes l ↦ inr (omega arith)
-        | no g ↦ inl (quiet-stable cells n inputs outputs r (after r) (room-after r) (omega arith)) ]
+        elim (decLt (keptCount n (after (suc r))) (keptCount n (after r))) [
+          | yes l ↦ inr (omega arith)
+          | no g ↦ inl (quiet-stable cells n inputs outputs r (after r) (room-after r) (omega arith))
+        ]
 
     enough : (r : ℕ) → Stable cells n inputs outputs (after r) ⊎ (keptCount n (after (suc r)) + suc r ≤ n)
     unfolding keptCount

@@ -3,3 +3,4 @@ pub mod Rounds
 pub mod InPlace
 pub mod Laws
 pub mod Masks
+pub mod Examples

@@ -157,13 +157,7 @@ fn all_in(dropped: &mut [u16], n: usize)
 }
 
 // The rounds, to the first that drops nothing; how many states are kept.
-pub fn settle(
-    cells: &[u16],
-    dropped: &mut [u16],
-    n: usize,
-    inputs: usize,
-    outputs: usize,
-) -> usize
+pub fn settle(cells: &[u16], dropped: &mut [u16], n: usize, inputs: usize, outputs: usize) -> usize
     requires { ⌜ Steps (now cells) n inputs outputs ⌝ }
     requires { ⌜ (n ≤ length (now dropped)) × (n ≤ maxStates) ⌝ }
     ensures { λ r. ⌜ Settled (now (cells .entry)) n inputs outputs (now (dropped .entry)) (now (dropped .exit)) r ⌝ }

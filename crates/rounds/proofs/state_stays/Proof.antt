@@ -35,7 +35,7 @@ entry c = c .before .before .before .before .before .before
 looked : (c : tie.After-cell-leads Inv-search μ-search Inv-inputs μ-inputs) {b : Bool} → c .cell-leads .result ≡ b →
     let a = entry (c .before .before) .args in
     leadsIn (a .cells .now) (atStart (a .round) (a .dropped .now))
-        (cellAt (a .inputs) (a .outputs) (a .k) (c .before .before .before .before .before .inputs .i) (c .before .before .before .search .o))
+    (cellAt (a .inputs) (a .outputs) (a .k) (c .before .before .before .before .before .inputs .i) (c .before .before .before .search .o))
     ≡ b
 looked c e = rw (← c .before .cell-at .ensures) (said (c .cell-leads .ensures) e)
 
