@@ -1,6 +1,6 @@
 -- Laws that belong to no one function.
 pub mod Start
-pub mod Rows
-pub mod Masking
+pub mod Search
 pub mod Turn
 pub mod Settling
+pub mod Masking

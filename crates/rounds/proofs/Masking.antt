@@ -22,16 +22,18 @@ begin p outputs = record { within = omega arith; so-far = sym (sum-none _) }
 one-bit : (o : ℕ) → o < 8 → (1 * 2 ^ o) % 256 ≡ 2 ^ o
 one-bit o h = shl-exact 1 o 8 (lit< tt) (omega arith) ∙ one-mul _
 
-module _ {p : ℕ → Bool} {outputs mask o : ℕ} (inv : Masking p outputs mask o) (l : o < outputs) where
+module _ {p : ℕ → Bool} {outputs mask o : ℕ} (inv : Masking p outputs mask o) where
+  -- a bit more fits a byte
   pub fits : o < 8 → mask + (1 * 2 ^ o) % 256 < 256
   fits h = omega (arith, one-bit o h, inv .so-far, bits-lt o p, pow-mono {j = 7} (let m : o ≤ 7 = omega arith in m))
 
-  pub bit-on : o < 8 → p o ≡ true → {m : ℕ} → m ≡ mask + (1 * 2 ^ o) % 256 → Masking p outputs m (o + 1)
-  bit-on h e q =
+  -- the two ways of a turn
+  pub bit-on : o < outputs → o < 8 → p o ≡ true → {m : ℕ} → m ≡ mask + (1 * 2 ^ o) % 256 → Masking p outputs m (o + 1)
+  bit-on l h e q =
       record { within = omega arith; so-far = q ∙ rw (sum-more, e, one-bit o h, inv .so-far) }
 
-  pub bit-off : p o ≡ false → {m : ℕ} → m ≡ mask → Masking p outputs m (o + 1)
-  bit-off e q = record { within = omega arith; so-far = q ∙ rw (sum-more, e, add-zero) (inv .so-far) }
+  pub bit-off : o < outputs → p o ≡ false → {m : ℕ} → m ≡ mask → Masking p outputs m (o + 1)
+  bit-off l e q = record { within = omega arith; so-far = q ∙ rw (sum-more, e, add-zero) (inv .so-far) }
 
-pub end : {p : ℕ → Bool} {outputs mask o : ℕ} → Masking p outputs mask o → outputs ≤ o → mask ≡ bitsOf outputs p
-end {p} {outputs} {mask} {o} inv h = let e : o ≡ outputs = omega (arith, inv .within) in rw (← e) (inv .so-far)
+  pub end : outputs ≤ o → mask ≡ bitsOf outputs p
+  end h = let e : o ≡ outputs = omega (arith, inv .within) in rw (← e) (inv .so-far)

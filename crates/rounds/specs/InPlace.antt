@@ -3,11 +3,11 @@
 use mathlib.Core.Path.{_≡_}
 use mathlib.Core.Bool.{Bool, cond, not, _&&_}
 use mathlib.Core.List.{List}
-use Prim.Native.Nat.{ℕ, _+_, _-_, _*_, _<_, _≤_}
+use Prim.Native.Nat.{ℕ, _-_}
 use lib.Dec.{eqb}
 use lib.ListN.{length, getD}
 use Rattle.records.specs.Lists.{put}
-use Rattle.rounds.specs.Rounds.{brokenCell, isIn, stays, round, keptCount}
+use Rattle.rounds.specs.Rounds.{isIn, stays, round, keptCount}
 
 -- the entries at the start of round r: the states that it has dropped so far are in
 unfoldable pub atStart : ℕ → List ℕ → List ℕ
@@ -16,11 +16,6 @@ atStart r dropped = put dropped (length dropped) (λ k. cond (eqb (getD dropped 
 -- round r, under way, drops a state: it is in, and has an input with no step to a state that was in at the start
 unfoldable pub drops : List ℕ → ℕ → ℕ → ℕ → List ℕ → ℕ → Bool
 drops cells inputs outputs r dropped k = isIn dropped k && not (stays cells (atStart r dropped) inputs outputs k)
-
--- the cell lies in the table, and its step, unless it is broken, leads to a state that has an entry
-pub record Leads (cells dropped : List ℕ) (at : ℕ) : Type 0 where
-  pub within : at < length cells
-  pub target : (getD cells at 0 ≡ brokenCell → ⊥) → getD cells at 0 < length dropped
 
 -- what a round promises: the entries, and how many states it dropped
 pub record Rounded (cells : List ℕ) (n inputs outputs r : ℕ) (before after : List ℕ) (lost : ℕ) : Type 0 where

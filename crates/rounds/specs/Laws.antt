@@ -2,38 +2,25 @@
 -- Assumes nothing.
 use mathlib.Core.Path.{_≡_, refl, sym, ap, _∙_}
 use mathlib.Core.Bool.{Bool, true, false, cond, not, _&&_}
-use mathlib.Core.List.{List, [], _∷_}
+use mathlib.Core.List.{List}
 use mathlib.Core.Logic.{⊎-elim, inl, inr, _⊎_}
 use Prim.Native.Nat.{ℕ, zero, suc, _+_, _-_, _*_, _≤_, _<_}
-use native.Mathlib.Nat.{mul-comm, suc-mul, mul-le-mul-right, add-suc, add-zero}
+use native.Mathlib.Nat.{add-suc, add-zero}
 use native.Mathlib.Numerals.{add-one}
 use native.Mathlib.Decide.{decLt}
 use native.Mathlib.Omega.{arith}
-use lib.Arith.{digits-lt}
 use lib.Dec.{eqb}
 use lib.ListN.{length, getD}
-use borrow.Author.Tests.{eqb-true, eqb-false, ne-eqb, eq-eqb}
-use Rattle.records.specs.Tests.{both-ways, by-test, and-left, and-right}
-use Rattle.records.specs.Bounded.{all, any, count, all-cong, any-cong, count-le, count-mono, count-tight}
-use Rattle.records.specs.Lists.{put, put-ext, put-self, length-put, getD-put-front, getD-put-rest}
-use Rattle.rounds.specs.Rounds.{Steps, isBroken, cellAt, isIn, leadsIn, answered, stays, entryAfter, round, rounds, settled, keptCount}
+use borrow.Author.Tests.{eqb-false, ne-eqb}
+use Rattle.records.specs.Tests.{by-test, and-left, and-right}
+use Rattle.records.specs.Bounded.{all-cong, any-cong, count-le, count-mono, count-tight}
+use Rattle.records.specs.Lists.{put-ext, put-self, length-put, getD-put-front, getD-put-rest}
+use Rattle.rounds.specs.Cells.{cell-in}
+use Rattle.rounds.specs.Rounds.{Steps, isBroken, isIn, leadsIn, answered, stays, entryAfter, round, rounds, settled, keptCount}
 
--- ---- the table of steps
-
--- the cell of a state, an input and an output lies in the state's row, and so in the table
-pub cell-in-row : (inputs outputs k : ℕ) {i o : ℕ} → i < inputs → o < outputs
-    → cellAt inputs outputs k i o < k * (inputs * outputs) + inputs * outputs
-unfolding cellAt
-cell-in-row inputs outputs k {i} {o} hi ho =
-    omega (arith, digits-lt ho hi, mul-comm inputs o, mul-comm inputs outputs)
-
-pub row-in-table : (m : ℕ) {n k : ℕ} → k < n → k * m + m ≤ n * m
-row-in-table m {n} {k} h = omega (arith, mul-le-mul-right m h, suc-mul k m)
+-- ---- which states count
 
 module _ {cells : List ℕ} {n inputs outputs : ℕ} (table : Steps cells n inputs outputs) where
-  pub cell-in : {k i o : ℕ} → k < n → i < inputs → o < outputs → cellAt inputs outputs k i o < n * (inputs * outputs)
-  cell-in {k} hk hi ho = omega (arith, cell-in-row inputs outputs k hi ho, row-in-table (inputs * outputs) hk)
-
   -- where a step leads depends only on which of the n states are in, and so does whether a state stays
   module _ (a b : List ℕ) (same : (q : ℕ) → q < n → isIn a q ≡ isIn b q) where
     pub leads-cong : (at : ℕ) → at < n * (inputs * outputs) → leadsIn cells a at ≡ leadsIn cells b at
@@ -44,7 +31,7 @@ module _ {cells : List ℕ} {n inputs outputs : ℕ} (table : Steps cells n inpu
     pub stays-cong : (k : ℕ) → k < n → stays cells a inputs outputs k ≡ stays cells b inputs outputs k
     unfolding stays answered
     stays-cong k h =
-        all-cong inputs _ _ (λ i hi. any-cong outputs _ _ (λ o ho. leads-cong _ (cell-in h hi ho)))
+        all-cong inputs _ _ (λ i hi. any-cong outputs _ _ (λ o ho. leads-cong _ (cell-in table h hi ho)))
 
 -- ---- one round
 
@@ -127,6 +114,14 @@ module _ (cells : List ℕ) (n inputs outputs : ℕ) (memory : List ℕ) where
   stable-late r stable zero = rw add-zero
   stable-late r stable (suc j) =
       rw (add-suc, stable-late r stable j) (stable-round cells n inputs outputs (suc (r + j)) _ stable)
+
+  pub length-settled : length (settled cells n inputs outputs memory) ≡ length memory
+  unfolding settled
+  length-settled = length-rounds n
+
+  pub settled-rest : (k e : ℕ) → n ≤ k → getD (settled cells n inputs outputs memory) k e ≡ getD memory k e
+  unfolding settled
+  settled-rest = rounds-rest n
 
   -- if round r + 1 drops nothing, the rounds end with r
   pub stable-settled : (r : ℕ) → r ≤ n → Stable cells n inputs outputs (after r) → after r ≡ settled cells n inputs outputs memory

@@ -1,5 +1,6 @@
 -- The rounds that drop lost states, over a table of steps.
 pub mod Rounds
+pub mod Cells
 pub mod InPlace
 pub mod Laws
 pub mod Masks

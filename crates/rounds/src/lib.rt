@@ -7,7 +7,8 @@ ghost use lib.ListN.{length, getD};
 ghost use Rattle.records.specs.Limits.{maxStates};
 ghost use Rattle.records.specs.Lists.{put};
 ghost use Rattle.rounds.specs.Rounds.{Steps, isBroken, cellAt, isIn, leadsIn, stays, maskOf, Settled};
-ghost use Rattle.rounds.specs.InPlace.{atStart, drops, Leads, Rounded};
+ghost use Rattle.rounds.specs.Cells.{InRow, Entered, Leads};
+ghost use Rattle.rounds.specs.InPlace.{atStart, drops, Rounded};
 
 // A cell of the table of steps.
 pub struct Cell {
@@ -28,8 +29,7 @@ pub fn cell_is_broken(cell: u16) -> bool
 
 // Where the cell of a state, an input and an output stands.
 pub fn cell_at(inputs: usize, outputs: usize, k: usize, i: usize, o: usize) -> usize
-    requires { ⌜ (i < inputs) × (o < outputs) ⌝ }
-    requires { ⌜ k * (inputs * outputs) + inputs * outputs ≤ 18446744073709551615 ⌝ }
+    requires { ⌜ InRow inputs outputs k i o ⌝ }
     ensures { λ r. ⌜ r ≡ cellAt inputs outputs k i o ⌝ }
 {
     k * (inputs * outputs) + (i + inputs * o)
@@ -78,7 +78,7 @@ pub fn state_stays(
     round: u16,
 ) -> bool
     requires { ⌜ Steps (now cells) n inputs outputs ⌝ }
-    requires { ⌜ (n ≤ length (now dropped)) × (k < n) ⌝ }
+    requires { ⌜ Entered (now dropped) n k ⌝ }
     ensures { λ r. ⌜ r ≡ stays (now (cells .entry)) (atStart round (now (dropped .entry))) inputs outputs k ⌝ }
 {
     let mut i: usize = 0;
@@ -109,7 +109,7 @@ pub fn round_drops(
     round: u16,
 ) -> bool
     requires { ⌜ Steps (now cells) n inputs outputs ⌝ }
-    requires { ⌜ (n ≤ length (now dropped)) × (k < n) ⌝ }
+    requires { ⌜ Entered (now dropped) n k ⌝ }
     ensures { λ r. ⌜ r ≡ drops (now (cells .entry)) inputs outputs round (now (dropped .entry)) k ⌝ }
 {
     if !is_kept(dropped, k) {
@@ -186,7 +186,8 @@ pub fn mask_of(
     i: usize,
 ) -> u8
     requires { ⌜ Steps (now cells) n inputs outputs ⌝ }
-    requires { ⌜ (n ≤ length (now dropped)) × ((outputs ≤ 8) × ((k < n) × (i < inputs))) ⌝ }
+    requires { ⌜ Entered (now dropped) n k ⌝ }
+    requires { ⌜ (i < inputs) × (outputs ≤ 8) ⌝ }
     ensures { λ r. ⌜ r ≡ maskOf (now (cells .entry)) (now (dropped .entry)) inputs outputs k i ⌝ }
 {
     if !is_kept(dropped, k) {

@@ -2,7 +2,7 @@
 use native.Mathlib.Omega.{arith}
 use mathlib.Core.Path.{refl}
 use Rattle.rounds.specs.Rounds.{cellAt}
-use Rattle.rounds.specs.Laws.{cell-in-row}
+use Rattle.rounds.specs.Cells.{cell-in-row}
 use borrow.Author.Needs.{needs}
 use Rattle.rounds.proofs.cell_at.Statement.{statement}
 use Rattle.rounds.proofs.cell_at.Tie as tie
@@ -15,15 +15,15 @@ mul-result-2 c = search needs
 
 mul-result-3 : tie.Need-mul-result-3
 unfolding cellAt
-mul-result-3 c = omega (arith, cell-in-row (c .args .inputs) (c .args .outputs) (c .args .k) (c .pre .0 .0) (c .pre .0 .1))
+mul-result-3 c = omega (arith, cell-in-row (c .pre))
 
 add-result : tie.Need-add-result
 unfolding cellAt
-add-result c = omega (arith, cell-in-row (c .args .inputs) (c .args .outputs) (c .args .k) (c .pre .0 .0) (c .pre .0 .1))
+add-result c = omega (arith, cell-in-row (c .pre))
 
 add-result-2 : tie.Need-add-result-2
 unfolding cellAt
-add-result-2 c = omega (arith, cell-in-row (c .args .inputs) (c .args .outputs) (c .args .k) (c .pre .0 .0) (c .pre .0 .1))
+add-result-2 c = omega (arith, cell-in-row (c .pre))
 
 returns : tie.Need-returns
 unfolding cellAt

@@ -19,7 +19,7 @@ loop-holds c = begin _ _ _ _ _ _
 
 round-drops-requires : tie.Need-round-drops-requires Inv-loop μ-loop
 round-drops-requires c κs = let start = c .before .before .before .before .before in
-    (start .pre .0, (omega (arith, same (c .before .before .loop .inv), start .pre .1 .0), c .before .loop-test .taken))
+    (start .pre .0, record { room = omega (arith, same (c .before .before .loop .inv), start .pre .1 .0); state = omega arith })
 
 mul-dropped : tie.Need-mul-dropped Inv-loop μ-loop
 mul-dropped c = omega (arith, same (c .before .before .before .before .loop .inv))
@@ -39,9 +39,8 @@ loop-less c = omega arith
 loop-again : tie.Need-loop-again Inv-loop μ-loop
 loop-again c = let pre = c .before .before .before .before .before .before .before .pre in
     let at = c .before .before .before .before .loop .inv in
-    let in-range = c .before .before .before .loop-test .taken in
-    ⊎-elim (λ w. drop at (pre .0) (pre .1 .0) (pre .1 .1) in-range (said (c .before .round-drops .ensures) (w .0 .taken)) (w .1) (w .2))
-    (λ w. keep at (pre .0) (pre .1 .0) (pre .1 .1) in-range (said (c .before .round-drops .ensures) (w .0 .left)) (w .1) (w .2)) (c .if1 .came)
+    ⊎-elim (λ w. drop at (pre .0) (pre .1 .0) (pre .1 .1) (omega arith) (said (c .before .round-drops .ensures) (w .0 .taken)) (w .1) (w .2))
+    (λ w. keep at (pre .0) (pre .1 .0) (pre .1 .1) (omega arith) (said (c .before .round-drops .ensures) (w .0 .left)) (w .1) (w .2)) (c .if1 .came)
 
 same-length : tie.Need-same-length Inv-loop μ-loop
 same-length c = same (c .before .loop .inv)

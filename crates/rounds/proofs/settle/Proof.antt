@@ -49,16 +49,16 @@ add-made : tie.Need-add-made Inv-loop μ-loop
 add-made c = omega (arith, head (c .before) .loop .inv .enough)
 
 loop-less : tie.Need-loop-less Inv-loop μ-loop
-loop-less c = less (began (head (c .before) .before)) (head (c .before) .loop .inv) (c .before .before .before .one-round .ensures) (c .if1 .left)
+loop-less c = less (began (head (c .before) .before)) (head (c .before) .loop .inv) (c .before .before .before .one-round .ensures) (λ z. omega arith)
 
 loop-again : tie.Need-loop-again Inv-loop μ-loop
-loop-again c = go (began (head (c .before) .before)) (head (c .before) .loop .inv) (c .before .before .before .one-round .ensures) (c .if1 .left)
+loop-again c = go (began (head (c .before) .before)) (head (c .before) .loop .inv) (c .before .before .before .one-round .ensures) (λ z. omega arith)
 
 same-length : tie.Need-same-length Inv-loop μ-loop
 same-length c = same-after (began (head (c .before) .before)) (head (c .before) .loop .inv) (c .before .before .before .one-round .ensures)
 
 returns : tie.Need-returns Inv-loop μ-loop
-returns c = stop (began (head (c .before) .before)) (head (c .before) .loop .inv) (c .before .before .before .one-round .ensures) (c .if1 .taken)
+returns c = stop (began (head (c .before) .before)) (head (c .before) .loop .inv) (c .before .before .before .one-round .ensures) (omega arith)
 
 pub settle-spec : {M : Type 1} → statement M
 settle-spec =

@@ -1,28 +1,30 @@
 -- `rounds::state_stays`: the inputs before i have a step to a state that was in; the outputs before o have none at input i.
 -- Assumes nothing.
-use mathlib.Core.Path.{_≡_, sym, _∙_}
+use mathlib.Core.Path.{_≡_}
 use mathlib.Core.Bool.{Bool, true, false}
 use mathlib.Core.Logic.{⊎-elim}
-use Prim.Native.Nat.{ℕ, _+_, _-_, _*_, _≤_, _<_}
+use Prim.Native.Nat.{ℕ, _-_, _≤_, _<_}
 use native.Mathlib.Omega.{arith}
 use borrow.Author.Count.{below-none, below-more}
-use lib.ListN.{length, getD}
 use Rattle.records.specs.Tests.{said}
 use Rattle.records.specs.Bounded.{all, all-none, all-more, any-of}
 use Rattle.rounds.specs.Rounds.{cellAt, leadsIn, answered}
-use Rattle.rounds.specs.InPlace.{atStart, Leads}
-use Rattle.rounds.proofs.Rows.{row-fits, cell-leads-on, all-passed, one-failed}
+use Rattle.rounds.specs.InPlace.{atStart}
+use Rattle.rounds.specs.Cells.{in-row, leads-at}
+use Rattle.rounds.proofs.Search.{all-passed, one-failed}
 use Rattle.rounds.proofs.state_stays.Statement.{statement}
 use Rattle.rounds.proofs.state_stays.Tie as tie
 
 abbrev Inv-search : tie.InvT-search
-Inv-search cells dropped n inputs outputs k round i o₀ o = (o ≤ outputs) × ((p : ℕ) → p < o → leadsIn cells (atStart round dropped) (cellAt inputs outputs k i p) ≡ false)
+Inv-search cells dropped n inputs outputs k round i o₀ o =
+    (o ≤ outputs) × ((p : ℕ) → p < o → leadsIn cells (atStart round dropped) (cellAt inputs outputs k i p) ≡ false)
 
 abbrev μ-search : tie.MeasureT-search
 μ-search cells dropped n inputs outputs k round i o₀ o = outputs - o
 
 abbrev Inv-inputs : tie.InvT-inputs
-Inv-inputs cells dropped n inputs outputs k round i₀ i = (i ≤ inputs) × (all i (answered cells (atStart round dropped) inputs outputs k) ≡ true)
+Inv-inputs cells dropped n inputs outputs k round i₀ i =
+    (i ≤ inputs) × (all i (answered cells (atStart round dropped) inputs outputs k) ≡ true)
 
 abbrev μ-inputs : tie.MeasureT-inputs
 μ-inputs cells dropped n inputs outputs k round i₀ i = inputs - i
@@ -31,11 +33,15 @@ abbrev μ-inputs : tie.MeasureT-inputs
 abbrev entry : tie.In-search Inv-search μ-search Inv-inputs μ-inputs → tie.Start Inv-search μ-search Inv-inputs μ-inputs
 entry c = c .before .before .before .before .before .before
 
+abbrev input : tie.In-search Inv-search μ-search Inv-inputs μ-inputs → tie.At-inputs Inv-search μ-search Inv-inputs μ-inputs
+input c = c .before .before .before
+
 -- what the search saw at its cell
 looked : (c : tie.After-cell-leads Inv-search μ-search Inv-inputs μ-inputs) {b : Bool} → c .cell-leads .result ≡ b →
-    let a = entry (c .before .before) .args in
+    let at = c .before .before in
+    let a = entry at .args in
     leadsIn (a .cells .now) (atStart (a .round) (a .dropped .now))
-    (cellAt (a .inputs) (a .outputs) (a .k) (c .before .before .before .before .before .inputs .i) (c .before .before .before .search .o))
+    (cellAt (a .inputs) (a .outputs) (a .k) (input at .inputs .i) (at .before .search .o))
     ≡ b
 looked c e = rw (← c .before .cell-at .ensures) (said (c .cell-leads .ensures) e)
 
@@ -46,11 +52,11 @@ search-holds : tie.Need-search-holds Inv-search μ-search Inv-inputs μ-inputs
 search-holds c = (omega arith, below-none _)
 
 cell-at-requires : tie.Need-cell-at-requires Inv-search μ-search Inv-inputs μ-inputs
-cell-at-requires c κs = ((c .before .before .inputs-test .taken, c .search-test .left), omega (arith, row-fits (entry c .pre .0) (entry c .pre .1 .1)))
+cell-at-requires c κs = in-row (entry c .pre .0) (omega arith) (entry c .pre .1 .state) (omega arith) (omega arith)
 
 cell-leads-requires : tie.Need-cell-leads-requires Inv-search μ-search Inv-inputs μ-inputs
-cell-leads-requires c κs = cell-leads-on (entry (c .before) .pre .0) _ (entry (c .before) .pre .1 .0) (entry (c .before) .pre .1 .1)
-    (c .before .before .before .inputs-test .taken) (c .before .search-test .left) (c .cell-at .ensures)
+cell-leads-requires c κs =
+    leads-at (entry (c .before) .pre .0) (entry (c .before) .pre .1) (omega arith) (omega arith) (c .cell-at .ensures)
 
 add-o : tie.Need-add-o Inv-search μ-search Inv-inputs μ-inputs
 add-o c = omega arith
@@ -71,12 +77,13 @@ inputs-again : tie.Need-inputs-again Inv-search μ-search Inv-inputs μ-inputs
 unfolding answered
 inputs-again c = (
   omega arith,
-  all-more _ _ (c .before .before .before .before .before .before .inputs .inv .1)
-      (any-of _ _ _ (c .before .before .before .search-test .left) (looked (c .before) (c .if1 .taken))),
+  all-more _ _ (input (c .before .before .before) .inputs .inv .1)
+      (any-of _ _ _ (omega arith) (looked (c .before) (c .if1 .taken))),
 )
 
 returns : tie.Need-returns Inv-search μ-search Inv-inputs μ-inputs
-returns c = ⊎-elim (λ w. all-passed _ _ _ _ _ (c .before .inputs .inv .0) (w .left) (c .before .inputs .inv .1))
+returns c =
+    ⊎-elim (λ w. all-passed _ _ _ _ _ (c .before .inputs .inv .0) (w .left) (c .before .inputs .inv .1))
     (λ w. one-failed _ _ _ _ _ (w .0 .taken) (w .2 .taken) (w .1 .inv .1)) (c .inputs-test .came)
 
 pub state-stays-spec : {M : Type 1} → statement M
