@@ -4,4 +4,5 @@ pub mod Cells
 pub mod InPlace
 pub mod Laws
 pub mod Masks
+pub mod Agree
 pub mod Examples
