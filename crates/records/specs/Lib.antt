@@ -1,6 +1,7 @@
 -- What every format and table above shares.
 pub mod Tests
 pub mod Bounded
+pub mod Bits
 pub mod Lists
 pub mod Numbers
 pub mod Cursor

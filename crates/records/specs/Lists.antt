@@ -97,6 +97,13 @@ getD-put-front (x ∷ d) (suc n) f zero e l m = refl
 getD-put-front (x ∷ d) (suc n) f (suc k) e l m =
     getD-put-front d n (λ j. f (suc j)) k e (le-of-suc-le-suc l) (le-of-suc-le-suc m)
 
+-- the elements put back change nothing
+pub put-self : (d : List ℕ) (n : ℕ) → put d n (λ k. getD d k 0) ≡ d
+unfolding put
+put-self [] n = refl
+put-self (x ∷ d) zero = refl
+put-self (x ∷ d) (suc n) = ap (λ (t : List ℕ). x ∷ t) (put-self d n)
+
 -- only what f says below n counts
 pub put-ext : (d : List ℕ) (n : ℕ) (f g : ℕ → ℕ) → ((k : ℕ) → k < n → f k ≡ g k) → put d n f ≡ put d n g
 unfolding put

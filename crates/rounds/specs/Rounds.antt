@@ -16,6 +16,10 @@ use Rattle.records.specs.Lists.{put}
 abbrev pub brokenCell : ℕ
 brokenCell = 65535
 
+-- the step of a cell is broken
+abbrev pub isBroken : ℕ → Bool
+isBroken cell = eqb cell brokenCell
+
 -- the table has n rows, and every unbroken step leads to one of the n states
 pub record Steps (cells : List ℕ) (n inputs outputs : ℕ) : Type 0 where
   pub rows : n * (inputs * outputs) ≤ length cells
@@ -31,7 +35,7 @@ isIn dropped k = eqb (getD dropped k 0) 0
 
 -- the cell is an unbroken step to a state that is in
 unfoldable pub leadsIn : List ℕ → List ℕ → ℕ → Bool
-leadsIn cells dropped at = not (eqb (getD cells at 0) brokenCell) && isIn dropped (getD cells at 0)
+leadsIn cells dropped at = not (isBroken (getD cells at 0)) && isIn dropped (getD cells at 0)
 
 -- input i of state k has such a step
 unfoldable pub answered : List ℕ → List ℕ → ℕ → ℕ → ℕ → ℕ → Bool
