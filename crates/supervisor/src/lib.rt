@@ -1,3 +1,4 @@
 // The maximally permissive supervisor of a sheet, as a table.
 pub mod make;
 pub mod solve;
+pub mod table;
