@@ -12,7 +12,7 @@ ghost use Rattle.records.specs.Lists.{tab, cat};
 ghost use Rattle.records.specs.Numbers.{u16Bytes};
 ghost use Rattle.records.specs.Cursor.{header};
 ghost use Rattle.rounds.specs.Rounds.{Steps, maskOf};
-ghost use Rattle.supervisor.specs.Table.{rowLength, tableLength, tableRow};
+ghost use Rattle.supervisor.specs.Table.{keptFlag, rowLength, tableLength, tableRow};
 
 // The bytes of a row's record.
 pub fn row_length(inputs: usize) -> usize
@@ -64,6 +64,17 @@ pub fn put_masks(
     }
 }
 
+// The byte that says whether state k is kept.
+fn kept_flag(dropped: &[u16], k: usize) -> u8
+    requires { ⌜ k < length (now dropped) ⌝ }
+    ensures { λ r. ⌜ r ≡ keptFlag (now (dropped .entry)) k ⌝ }
+{
+    if is_kept(dropped, k) {
+        return 1;
+    }
+    0
+}
+
 // The record of state k.
 pub fn put_row(
     result: &mut [u8],
@@ -80,11 +91,7 @@ pub fn put_row(
     ensures { λ _. ⌜ now (result .exit) ≡ sets (now (result .entry)) at (tableRow (now (cells .entry)) (now (dropped .entry)) inputs outputs k) ⌝ }
 {
     put_header(result, at, (1 + inputs) as u16, 18);
-    if is_kept(dropped, k) {
-        result[at + 4] = 1;
-    } else {
-        result[at + 4] = 0;
-    }
+    result[at + 4] = kept_flag(dropped, k);
     put_masks(result, at + 5, cells, dropped, n, inputs, outputs, k);
 }
 
