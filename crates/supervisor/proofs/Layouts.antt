@@ -1,0 +1,61 @@
+-- A layout that fits, in the code's numbers: its lines, how many inputs and outputs they make, and its table's judging.
+-- Assumes nothing.
+use mathlib.Core.Path.{_≡_, sym, ap, subst, _∙_}
+use mathlib.Core.Bool.{Bool, true}
+use mathlib.Core.List.{List, _∷_, _++_}
+use Prim.Native.Nat.{ℕ, _^_, _≤_, _<_}
+use native.Mathlib.Omega.{arith}
+use lib.ListN.{length}
+use lib.Seq.{sets}
+use Rattle.records.specs.Lists.{cat}
+use Rattle.records.specs.Numbers.{u16Bytes}
+use Rattle.records.specs.Cursor.{header}
+use Rattle.sheet.specs.Where.{decoded, Fits}
+use Rattle.sheet.specs.declared.layout.Sheet.{Sheet}
+use Rattle.sheet.specs.declared.layout.Refusal.the-variants as ground
+use Rattle.product.specs.Numbered.{stateCount}
+use Rattle.supervisor.specs.Table.{tableRow, supervisorTable, tableLength}
+use Rattle.supervisor.specs.Solve.{Solution}
+use Rattle.supervisor.specs.Making.{Judges}
+use Rattle.supervisor.specs.Solving.{inputs-most, outputs-most, layout-inputs, layout-outputs}
+use Rattle.supervisor.specs.Written.{solved-short, layout-made}
+use Rattle.supervisor.specs.declared.make.Made.the-variants.{Table, Refused}
+
+module _ {s : List ℕ} {h : Sheet} (fits : Fits s h) where
+  -- lines
+  pub inputs-low : h .inputs ≤ 4
+  unfolding decoded
+  inputs-low = omega (arith, fits .inputs, fits .ok .head .inputs)
+
+  pub outputs-low : h .outputs ≤ 3
+  unfolding decoded
+  outputs-low = fits .ok .head .outputs-most
+
+  -- what they make
+  pub few-inputs : {n : ℕ} → n ≡ 2 ^ h .inputs → n ≤ 16
+  few-inputs e = omega (arith, layout-inputs fits, inputs-most (decoded s h) (fits .ok .head))
+
+  pub few-outputs : {n : ℕ} → n ≡ 2 ^ h .outputs → n ≤ 8
+  few-outputs e = omega (arith, layout-outputs s h, outputs-most (decoded s h) (fits .ok .head))
+
+  -- the table does not fit into the result
+  module _
+      {n kept : ℕ} {start : Bool} {tuples cells dropped : List ℕ}
+      (solution : Solution (decoded s h) n kept start tuples cells dropped) (before : List ℕ)
+      (inputs : ℕ) {size : ℕ} (is-inputs : inputs ≡ 2 ^ h .inputs) (kept-start : start ≡ true) (is-size : size ≡ tableLength inputs n)
+    where
+      pub layout-short : length before < size
+          → Judges supervisorTable stateCount (decoded s h) before (Refused ground.ShortResult) before
+      layout-short short =
+          solved-short solution before kept-start
+          (omega (arith, ap (λ (x : ℕ). tableLength x n) (is-inputs ∙ layout-inputs fits)))
+
+      -- or it does, and head and rows are written
+      pub layout-written : size ≤ length before → (outputs : ℕ) → outputs ≡ 2 ^ h .outputs → {head after : List ℕ}
+          → head ≡ sets before 0 (header 5 19 ++ (h .mode ∷ h .inputs ∷ h .outputs ∷ u16Bytes n))
+          → after ≡ sets head 9 (cat n (tableRow cells dropped inputs outputs))
+          → Judges supervisorTable stateCount (decoded s h) before (Table size n) after
+      layout-written room outputs is-outputs {head} {after} wrote-head wrote-rows =
+          subst (λ (l : List ℕ). Judges supervisorTable stateCount (decoded s h) before (Table size n) l)
+          (sym (wrote-rows ∙ ap (λ (l : List ℕ). sets l 9 (cat n (tableRow cells dropped inputs outputs))) wrote-head))
+          (layout-made fits solution before inputs outputs size is-inputs is-outputs kept-start is-size room)
