@@ -6,3 +6,4 @@ pub mod Numbers
 pub mod Cursor
 pub mod Limits
 pub mod Layout
+pub mod GuardTable
