@@ -9,6 +9,9 @@ use Rattle.board.specs.Board.{live, rewindOn, unloadOn, changeNumber}
 use Rattle.board.specs.Table.{loadOn, loadNumber}
 use Rattle.board.specs.Step.{proposal, stepOn, stepNumber, stepOutput}
 use Rattle.board.specs.declared.Board.{Board}
+use Rattle.board.specs.declared.answers.Loading.{Loading}
+use Rattle.board.specs.declared.answers.Stepping.{Stepping}
+use Rattle.board.specs.declared.answers.Changing.{Changing}
 
 -- the calls, with the slices and inputs that they are given
 pub data Call : Type 0 where
@@ -22,20 +25,31 @@ pub record Event : Type 0 where
   pub number : ℕ
   pub output : ℕ
 
--- the board that a call hands back
+-- each call with what it handed back
+abbrev pub loadEvent : List ℕ → Loading → Event
+loadEvent t r = record { call = load t; number = loadNumber (r .answer); output = 0 }
+
+abbrev pub stepEvent : List ℕ → ℕ → Stepping → Event
+stepEvent t i r = record { call = step t i; number = stepNumber (r .answer); output = stepOutput (r .answer) }
+
+abbrev pub rewindEvent : Changing → Event
+rewindEvent r = record { call = rewind; number = changeNumber (r .answer); output = 0 }
+
+abbrev pub unloadEvent : Changing → Event
+unloadEvent r = record { call = unload; number = changeNumber (r .answer); output = 0 }
+
+-- the board that a call hands back, and its answer
 abbrev pub handed : Board → Call → Board
 handed b (load t) = loadOn b t .board
 handed b (step t i) = stepOn b t i .board
 handed b rewind = rewindOn b .board
 handed b unload = unloadOn b .board
 
--- its answer
 abbrev pub answered : Board → Call → Event
-answered b (load t) = record { call = load t; number = loadNumber (loadOn b t .answer); output = 0 }
-answered b (step t i) =
-    record { call = step t i; number = stepNumber (stepOn b t i .answer); output = stepOutput (stepOn b t i .answer) }
-answered b rewind = record { call = rewind; number = changeNumber (rewindOn b .answer); output = 0 }
-answered b unload = record { call = unload; number = changeNumber (unloadOn b .answer); output = 0 }
+answered b (load t) = loadEvent t (loadOn b t)
+answered b (step t i) = stepEvent t i (stepOn b t i)
+answered b rewind = rewindEvent (rewindOn b)
+answered b unload = unloadEvent (unloadOn b)
 
 -- a list of calls, the latest first, each given the board that the one before handed back: the last board, and the answers
 abbrev pub after : Board → List Call → Board

@@ -4,3 +4,7 @@ pub mod Table
 pub mod Step
 pub mod History
 pub mod Promises
+pub mod Facts
+pub mod Laws
+pub mod Counting
+pub mod Guard

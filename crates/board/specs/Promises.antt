@@ -6,7 +6,7 @@ use Prim.Native.Nat.{ℕ}
 use Rattle.board.specs.Board.{emptyBoard, rewindOn, unloadOn, changeNumber, changeRefusal}
 use Rattle.board.specs.Table.{loadOn, loadNumber, loadRefusal}
 use Rattle.board.specs.Step.{stepOn, stepNumber, stepOutput, stepRefusal, stepGiven}
-use Rattle.board.specs.History.{Call, load, step, rewind, unload, after, history, Counts, KeepsCount}
+use Rattle.board.specs.History.{Call, loadEvent, stepEvent, rewindEvent, unloadEvent, after, history, Counts, KeepsCount}
 use Rattle.board.specs.declared.Board.{Board}
 use Rattle.board.specs.declared.answers.Loading.{Loading}
 use Rattle.board.specs.declared.answers.Stepping.{Stepping}
@@ -21,21 +21,20 @@ pub record EmptyPromise (r : Board) : Type 0 where
 pub record LoadPromise (b : Board) (t : List ℕ) (r : Loading) : Type 0 where
   pub whole : r ≡ loadOn b t
   pub number : loadNumber (r .answer) ≡ loadRefusal b t
-  pub counted : KeepsCount b (record { call = load t; number = loadNumber (r .answer); output = 0 }) (r .board)
+  pub counted : KeepsCount b (loadEvent t r) (r .board)
 
 pub record StepPromise (b : Board) (t : List ℕ) (input : ℕ) (r : Stepping) : Type 0 where
   pub whole : r ≡ stepOn b t input
   pub number : stepNumber (r .answer) ≡ stepRefusal b t input
   pub output : stepOutput (r .answer) ≡ stepGiven b t input
-  pub counted :
-    KeepsCount b (record { call = step t input; number = stepNumber (r .answer); output = stepOutput (r .answer) }) (r .board)
+  pub counted : KeepsCount b (stepEvent t input r) (r .board)
 
 pub record RewindPromise (b : Board) (r : Changing) : Type 0 where
   pub whole : r ≡ rewindOn b
   pub number : changeNumber (r .answer) ≡ changeRefusal b
-  pub counted : KeepsCount b (record { call = rewind; number = changeNumber (r .answer); output = 0 }) (r .board)
+  pub counted : KeepsCount b (rewindEvent r) (r .board)
 
 pub record UnloadPromise (b : Board) (r : Changing) : Type 0 where
   pub whole : r ≡ unloadOn b
   pub number : changeNumber (r .answer) ≡ changeRefusal b
-  pub counted : KeepsCount b (record { call = unload; number = changeNumber (r .answer); output = 0 }) (r .board)
+  pub counted : KeepsCount b (unloadEvent r) (r .board)

@@ -1,16 +1,15 @@
 -- Laws of the guard table's layout: where rows and entries lie, and what stands in the table of given entries.
 -- Assumes nothing.
-use mathlib.Core.Path.{_≡_, refl, sym, ap, ap₂, _∙_}
+use mathlib.Core.Path.{_≡_, refl, sym, ap, _∙_}
 use mathlib.Core.Bool.{true}
 use mathlib.Core.List.{List, [], _∷_, _++_}
 use Prim.Native.Nat.{ℕ, _+_, _*_, _^_, _/_, _%_, _≤_, _<_}
 use native.Mathlib.Nat.{suc-mul, mul-le-mul-right, add-zero}
+use native.Mathlib.Numerals.{add-one}
 use native.Mathlib.Omega.{arith}
 use lib.ListN.{length, getD, length-append}
 use lib.Seq.{getD-append-add}
-use lib.Pow.{pow-pos}
 use borrow.Author.Tests.{eq-eqb}
-use Rattle.records.specs.Tests.{and-both}
 use Rattle.records.specs.Lists.{cat, length-cat, getD-cat}
 use Rattle.records.specs.Numbers.{u16At, u16Bytes}
 use Rattle.records.specs.Cursor.{header}
@@ -24,7 +23,7 @@ rowAt inputs place = 10 + place * rowLength inputs
 
 pub row-next : (inputs place : ℕ) → rowAt inputs (place + 1) ≡ rowAt inputs place + rowLength inputs
 unfolding rowAt
-row-next i p = rw (native.Mathlib.Numerals.add-one, suc-mul) (omega arith)
+row-next i p = rw (add-one, suc-mul) (omega arith)
 
 pub row-fits : (inputs place count : ℕ) → place < count → rowAt inputs place + rowLength inputs ≤ tableLength inputs count
 unfolding rowAt tableLength
@@ -62,6 +61,16 @@ row-entry i o n x b h l =
 
 -- ---- the table
 
+-- what the head reads, and that the table fills its bytes exactly
+pub record HeadReads (t : List ℕ) (mode inputs outputs horizon count : ℕ) : Type 0 where
+  pub header-is : headerIs t 0 6 16 ≡ true
+  pub mode-is : getD t 4 0 ≡ mode
+  pub inputs-is : getD t 5 0 ≡ inputs
+  pub outputs-is : getD t 6 0 ≡ outputs
+  pub horizon-is : getD t 7 0 ≡ horizon
+  pub count-is : u16At t 8 ≡ count
+  pub fills : length t ≡ tableLength inputs count
+
 module _ (mode inputs outputs horizon count : ℕ) (out next : ℕ → ℕ → ℕ) where
   abbrev table : List ℕ
   table = guardTable mode inputs outputs horizon count out next
@@ -79,30 +88,18 @@ module _ (mode inputs outputs horizon count : ℕ) (out next : ℕ → ℕ → �
   unfolding guardTable tableLength
   length-table = length-append head (cat count row) ∙ ap (λ (k : ℕ). 10 + k) (length-cat (rowLength inputs) count row rows)
 
-  -- the head
-  pub head-header : headerIs table 0 6 16 ≡ true
+  pub table-head : HeadReads table mode inputs outputs horizon count
   unfolding guardTable headerIs u16At
-  head-header = refl
-
-  pub head-mode : getD table 4 0 ≡ mode
-  unfolding guardTable
-  head-mode = refl
-
-  pub head-inputs : getD table 5 0 ≡ inputs
-  unfolding guardTable
-  head-inputs = refl
-
-  pub head-outputs : getD table 6 0 ≡ outputs
-  unfolding guardTable
-  head-outputs = refl
-
-  pub head-horizon : getD table 7 0 ≡ horizon
-  unfolding guardTable
-  head-horizon = refl
-
-  pub head-count : u16At table 8 ≡ count
-  unfolding guardTable u16At
-  head-count = omega arith
+  table-head =
+      record {
+        header-is = refl;
+        mode-is = refl;
+        inputs-is = refl;
+        outputs-is = refl;
+        horizon-is = refl;
+        count-is = omega arith;
+        fills = length-table;
+      }
 
   -- byte j of the row of state k
   table-row : (k j : ℕ) → k < count → j < rowLength inputs
