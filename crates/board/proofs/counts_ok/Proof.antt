@@ -1,35 +1,36 @@
+-- `board::counts_ok`: the tests in the definition's order. Assumes nothing.
+use Rattle.records.specs.Tests.{cases}
+use Rattle.board.specs.Board.{countsOk}
 use Rattle.board.proofs.counts_ok.Statement.{statement}
 use Rattle.board.proofs.counts_ok.Tie as tie
-use Rattle.board.proofs.counts_ok.Reads as reads
-use Rattle.board.proofs.counts_ok.Lts as lts
 
--- src/lib.rt:43:9
 returns : tie.Need-returns
-returns c = ?
+unfolding countsOk
+returns c = search cases
 
--- src/lib.rt:46:9
 returns-2 : tie.Need-returns-2
-returns-2 c = ?
+unfolding countsOk
+returns-2 c = search cases
 
--- src/lib.rt:49:9
 returns-3 : tie.Need-returns-3
-returns-3 c = ?
+unfolding countsOk
+returns-3 c = search cases
 
--- src/lib.rt:52:9
 returns-4 : tie.Need-returns-4
-returns-4 c = ?
+unfolding countsOk
+returns-4 c = search cases
 
--- src/lib.rt:55:9
 returns-5 : tie.Need-returns-5
-returns-5 c = ?
+unfolding countsOk
+returns-5 c = search cases
 
--- src/lib.rt:39:1
 returns-6 : tie.Need-returns-6
-returns-6 c = ?
+unfolding countsOk
+returns-6 c = search cases
 
--- src/lib.rt:39:1
 returns-7 : tie.Need-returns-7
-returns-7 c = ?
+unfolding countsOk
+returns-7 c = search cases
 
 pub counts-ok-spec : {M : Type 1} → statement M
 counts-ok-spec =

@@ -1,28 +1,32 @@
+-- `board::strays`: in mode 1 the inputs are no fewer than the outputs, so the proposal's place is a number. Assumes nothing.
+use native.Mathlib.Omega.{arith}
+use lib.Pow.{pow-pos}
+use borrow.Author.Tests.{eq-eqb}
+use Rattle.records.specs.Tests.{cases}
+use Rattle.records.specs.Limits.{Lines, lines-facts}
+use Rattle.board.specs.Step.{proposal, deviates}
 use Rattle.board.proofs.strays.Statement.{statement}
 use Rattle.board.proofs.strays.Tie as tie
-use Rattle.board.proofs.strays.Reads as reads
-use Rattle.board.proofs.strays.Lts as lts
-use Rattle.records.proofs.numbers.pow2.Reads as pow2-reads
 
--- src/lib.rt:66:48
+lines : (c : tie.Start) → Lines (c .args .mode) (c .args .inputs) (c .args .outputs)
+lines c = lines-facts (c .args .mode) (c .args .inputs) (c .args .outputs) (c .pre)
+
 sub-pow2 : tie.Need-sub-pow2
-sub-pow2 c = ?
+sub-pow2 c = lines (c .before) .shield (c .if1 .taken)
 
--- src/lib.rt:66:43
 pow2-requires : tie.Need-pow2-requires
-pow2-requires c κs = ?
+pow2-requires c κs = let h = lines (c .before) in omega arith
 
--- src/lib.rt:66:24
 div-proposal : tie.Need-div-proposal
-div-proposal c = ?
+div-proposal c = rw (c .pow2 .ensures) (pow-pos _)
 
--- src/lib.rt:67:9
 returns : tie.Need-returns
-returns c = ?
+unfolding deviates proposal
+returns c = simp (eq-eqb _ _ (c .before .if1 .taken), c .pow2 .ensures)
 
--- src/lib.rt:61:1
 returns-2 : tie.Need-returns-2
-returns-2 c = ?
+unfolding deviates proposal
+returns-2 c = search (cases, c .if1 .left)
 
 pub strays-spec : {M : Type 1} → statement M
 strays-spec = tie.close (tie.spec sub-pow2 pow2-requires div-proposal returns returns-2)

@@ -1,11 +1,13 @@
+-- `board::Board::empty` is the empty board. Assumes nothing.
+use mathlib.Core.Path.{refl}
+use Rattle.board.specs.Board.{emptyBoard}
+use Rattle.board.proofs.Promises.{empty-promise}
 use Rattle.board.proofs.Board.empty.Statement.{statement}
 use Rattle.board.proofs.Board.empty.Tie as tie
-use Rattle.board.proofs.Board.empty.Reads as reads
-use Rattle.board.proofs.Board.empty.Lts as lts
 
--- src/lib.rt:77:5
 returns : tie.Need-returns
-returns c = ?
+unfolding emptyBoard
+returns c = empty-promise _ refl
 
 pub empty-spec : {M : Type 1} → statement M
 empty-spec = tie.close (tie.spec returns)

@@ -1,60 +1,95 @@
+-- `board::Board::look_up`: in a slice of the right length the entry lies inside. Assumes nothing.
+use native.Mathlib.Omega.{arith}
+use mathlib.Core.Path.{_≡_, sym, _∙_}
+use mathlib.Core.Bool.{Bool, true, false}
+use Prim.Native.Nat.{_+_, _<_}
+use lib.Dec.{eqb}
+use lib.ListN.{length}
+use denote.Ref.{now}
+use borrow.Author.Tests.{ne-eqb, eq-eqb}
+use Rattle.records.specs.Tests.{said}
+use Rattle.records.specs.Limits.{Lines, lines-facts}
+use Rattle.records.specs.GuardTable.{entry-inside}
+use Rattle.board.specs.Facts.{Live, live-facts}
+use Rattle.board.specs.Step.{outputAt, nextAt, entryFits, lookedUp}
 use borrow.Author.Needs.{needs}
 use Rattle.board.proofs.Board.look_up.Statement.{statement}
 use Rattle.board.proofs.Board.look_up.Tie as tie
-use Rattle.board.proofs.Board.look_up.Reads as reads
-use Rattle.board.proofs.Board.look_up.Lts as lts
-use Rattle.board.proofs.Board.moved.Reads as moved-reads
-use Rattle.board.proofs.table.entry_ok.Reads as entry-ok-reads
-use Rattle.records.proofs.layout.Layout.entry_at.Reads as entry-at-reads
-use Rattle.records.proofs.layout.Layout.table_length.Reads as table-length-reads
 
--- src/lib.rt:165:21
+abbrev start : tie.After-struct-known → tie.Start
+start c = c .before .before
+
+-- where the slice has the right length, and the entry's place is known
+abbrev sized : tie.After-entry-at → tie.Else1
+sized c = c .before .before
+
+abbrev entry : tie.After-entry-at → tie.Start
+entry c = start (sized c .before .before)
+
+facts : (c : tie.Start) → Live (c .args .self)
+facts c = live-facts (c .args .self) (c .pre .0)
+
+lines : (c : tie.Start) → Lines (c .args .self .mode) (c .args .self .inputs) (c .args .self .outputs)
+lines c = lines-facts _ _ _ (facts c .lines)
+
+inside : (c : tie.After-entry-at) → c .entry-at .result + 1 < length (now (entry c .args .table))
+inside c =
+    let a = entry c .args in
+    omega (arith, entry-inside (a .self .inputs) (a .self .place) (a .self .count) (a .input) (facts (entry c) .place) (entry c .pre .1),
+    c .entry-at .ensures, sized c .before .table-length .ensures)
+
+-- the test of the entry is the definition's
+fits : (c : tie.After-entry-ok) (f : Bool) → c .entry-ok .result ≡ f
+    → entryFits (entry (c .before) .args .self) (now (entry (c .before) .args .table)) (entry (c .before) .args .input) ≡ f
+unfolding entryFits
+fits c f e =
+    let d = c .before in
+    simp (eq-eqb _ _ (sized d .if1 .left ∙ sized d .before .table-length .ensures))
+    (rw (d .entry-at .ensures) at (said (c .entry-ok .ensures) e))
+
 cast-count : tie.Need-cast-count
 cast-count c = search needs
 
--- src/lib.rt:166:27
 table-length-requires : tie.Need-table-length-requires
-table-length-requires c κs = ?
+table-length-requires c κs = let h = facts (start c) in
+    let l = lines (start c) in
+    omega arith
 
--- src/lib.rt:167:13
 returns : tie.Need-returns
-returns c = ?
+unfolding lookedUp entryFits
+returns c = simp (ne-eqb _ _ (λ e. c .if1 .taken (e ∙ sym (c .before .table-length .ensures))))
 
--- src/lib.rt:172:34
 cast-entry-at : tie.Need-cast-entry-at
 cast-entry-at c = search needs
 
--- src/lib.rt:172:13
 entry-at-requires : tie.Need-entry-at-requires
-entry-at-requires c κs = ?
+entry-at-requires c κs = let h = facts (start (c .before .before .before)) in
+    let l = lines (start (c .before .before .before)) in
+    omega arith
 
--- src/lib.rt:173:12
 entry-ok-requires : tie.Need-entry-ok-requires
-entry-ok-requires c κs = ?
+entry-ok-requires c κs = (inside c, lines (entry c) .outputs-most)
 
--- src/lib.rt:174:38
 shared-slice-read-moved : tie.Need-shared-slice-read-moved
-shared-slice-read-moved c = ?
+shared-slice-read-moved c = omega (arith, inside (c .before .before .before))
 
--- src/lib.rt:174:55
 add-moved : tie.Need-add-moved
-add-moved c = ?
+add-moved c = omega (arith, inside (c .before .before .before))
 
--- src/lib.rt:174:49
 shared-slice-read-moved-2 : tie.Need-shared-slice-read-moved-2
-shared-slice-read-moved-2 c = ?
+shared-slice-read-moved-2 c = omega (arith, inside (c .before .before .before .before))
 
--- src/lib.rt:174:13
 moved-requires : tie.Need-moved-requires
 moved-requires c κs = search needs
 
--- src/lib.rt:174:13
 returns-2 : tie.Need-returns-2
-returns-2 c = ?
+unfolding lookedUp outputAt nextAt
+returns-2 c = let d = c .before .before .before .before in
+    simp (fits d true (c .before .before .before .if2 .taken), c .moved .ensures, d .before .entry-at .ensures)
 
--- src/lib.rt:158:5
 returns-3 : tie.Need-returns-3
-returns-3 c = ?
+unfolding lookedUp
+returns-3 c = simp (fits (c .before) false (c .if2 .left))
 
 pub look-up-spec : {M : Type 1} → statement M
 look-up-spec =

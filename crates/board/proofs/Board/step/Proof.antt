@@ -1,39 +1,54 @@
+-- `board::Board::step`: the tests in the definition's order. Assumes nothing.
+use native.Mathlib.Omega.{arith}
+use mathlib.Core.Path.{_≡_}
+use mathlib.Core.Bool.{true}
+use borrow.Author.Tests.{le-leb, lt-leb, le-ltb, lt-ltb}
+use Rattle.records.specs.Tests.{said-no, said-yes}
+use Rattle.records.specs.Limits.{lines-facts}
+use Rattle.board.specs.Board.{live}
+use Rattle.board.specs.Step.{stepOn}
+use Rattle.board.specs.Facts.{live-facts}
+use Rattle.board.proofs.Promises.{step-promise}
 use borrow.Author.Needs.{needs}
 use Rattle.board.proofs.Board.step.Statement.{statement}
 use Rattle.board.proofs.Board.step.Tie as tie
-use Rattle.board.proofs.Board.step.Reads as reads
-use Rattle.board.proofs.Board.step.Lts as lts
-use Rattle.board.proofs.Board.is_live.Reads as is-live-reads
-use Rattle.board.proofs.Board.look_up.Reads as look-up-reads
-use Rattle.records.proofs.numbers.pow2.Reads as pow2-reads
 
--- src/lib.rt:136:13
+-- past the first test, and past the first two
+abbrev first : tie.Else2 → tie.Else1
+first c = c .before .before
+
+alive : (c : tie.Else1) → live (c .before .before .before .args .self) ≡ true
+alive c = said-yes (c .before .is-live .ensures) (c .if1 .left)
+
 is-live-requires : tie.Need-is-live-requires
 is-live-requires c κs = search needs
 
--- src/lib.rt:137:13
 returns : tie.Need-returns
-returns c = ?
+unfolding stepOn
+returns c = step-promise _ _ _ _ (simp (said-no (c .before .is-live .ensures) (c .if1 .taken)))
 
--- src/lib.rt:143:13
 returns-2 : tie.Need-returns-2
-returns-2 c = ?
+unfolding stepOn
+returns-2 c = step-promise _ _ _ _ (simp (alive (c .before .before), le-leb _ _ (c .if2 .taken)))
 
--- src/lib.rt:148:12
 pow2-requires : tie.Need-pow2-requires
-pow2-requires c κs = ?
+pow2-requires c κs = let h = lines-facts _ _ _ (live-facts _ (alive (first c)) .lines) in
+    omega arith
 
--- src/lib.rt:149:13
 returns-3 : tie.Need-returns-3
-returns-3 c = ?
+unfolding stepOn
+returns-3 c = let d = c .before .before in
+    step-promise _ _ _ _ (simp (alive (first d), lt-leb _ _ (d .if2 .left), le-ltb _ _ (rw (c .before .pow2 .ensures) at (c .if3 .taken))))
 
--- src/lib.rt:154:9
 look-up-requires : tie.Need-look-up-requires
-look-up-requires c κs = ?
+look-up-requires c κs = (alive (first (c .before .before)), rw (c .before .pow2 .ensures) at (c .if3 .left))
 
--- src/lib.rt:133:5
 returns-4 : tie.Need-returns-4
-returns-4 c = ?
+unfolding stepOn
+returns-4 c = let d = c .before .before .before in
+    step-promise _ _ _ _
+    (simp (alive (first d), lt-leb _ _ (d .if2 .left), lt-ltb _ _ (rw (c .before .before .pow2 .ensures) at (c .before .if3 .left)))
+    (c .look-up .ensures))
 
 pub step-spec : {M : Type 1} → statement M
 step-spec =

@@ -1,35 +1,32 @@
+-- `board::table::fields_ok`: the tests in the definition's order. Assumes nothing.
+use Rattle.records.specs.Tests.{said}
+use Rattle.records.specs.Limits.{lines-facts}
+use Rattle.board.specs.Table.{fieldsOk}
 use borrow.Author.Needs.{needs}
 use Rattle.board.proofs.table.fields_ok.Statement.{statement}
 use Rattle.board.proofs.table.fields_ok.Tie as tie
-use Rattle.board.proofs.table.fields_ok.Reads as reads
-use Rattle.board.proofs.table.fields_ok.Lts as lts
-use Rattle.board.proofs.table.size_ok.Reads as size-ok-reads
-use Rattle.records.proofs.limits.horizon_ok.Reads as horizon-ok-reads
-use Rattle.records.proofs.limits.lines_ok.Reads as lines-ok-reads
 
--- src/table.rt:34:8
 lines-ok-requires : tie.Need-lines-ok-requires
 lines-ok-requires c κs = search needs
 
--- src/table.rt:35:12
 horizon-ok-requires : tie.Need-horizon-ok-requires
 horizon-ok-requires c κs = search needs
 
--- src/table.rt:36:13
 size-ok-requires : tie.Need-size-ok-requires
-size-ok-requires c κs = ?
+size-ok-requires c κs = lines-facts _ _ _ (said (c .before .before .before .lines-ok .ensures) (c .before .before .if1 .taken)) .inputs-most
 
--- src/table.rt:36:13
 returns : tie.Need-returns
-returns c = ?
+unfolding fieldsOk
+returns c = let b = c .before in
+    simp (said (b .before .before .before .lines-ok .ensures) (b .before .before .if1 .taken), said (b .before .horizon-ok .ensures) (b .if2 .taken)) (c .size-ok .ensures)
 
--- src/table.rt:31:1
 returns-2 : tie.Need-returns-2
-returns-2 c = ?
+unfolding fieldsOk
+returns-2 c = simp (said (c .before .before .before .lines-ok .ensures) (c .before .before .if1 .taken), said (c .before .horizon-ok .ensures) (c .if2 .left))
 
--- src/table.rt:31:1
 returns-3 : tie.Need-returns-3
-returns-3 c = ?
+unfolding fieldsOk
+returns-3 c = simp (said (c .before .lines-ok .ensures) (c .if1 .left))
 
 pub fields-ok-spec : {M : Type 1} → statement M
 fields-ok-spec =

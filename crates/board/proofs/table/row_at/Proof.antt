@@ -1,25 +1,27 @@
+-- `board::table::row_at`: at most 256 rows of 36 bytes before it. Assumes nothing.
+use native.Mathlib.Omega.{arith}
+use native.Mathlib.Nat.{mul-le-mul}
+use Prim.Native.Nat.{_*_, _≤_}
+use Rattle.records.specs.GuardTable.{rowAt}
 use borrow.Author.Needs.{needs}
 use Rattle.board.proofs.table.row_at.Statement.{statement}
 use Rattle.board.proofs.table.row_at.Tie as tie
-use Rattle.board.proofs.table.row_at.Reads as reads
-use Rattle.board.proofs.table.row_at.Lts as lts
-use Rattle.records.proofs.layout.Layout.row_length.Reads as row-length-reads
 
--- src/table.rt:90:18
+rows : (c : tie.After-row-length) → c .before .args .place * c .row-length .result ≤ 9216
+rows c = mul-le-mul {n₂ = 256} {m₂ = 36} (omega arith) (omega arith)
+
 row-length-requires : tie.Need-row-length-requires
 row-length-requires c κs = search needs
 
--- src/table.rt:90:10
 mul-result : tie.Need-mul-result
-mul-result c = ?
+mul-result c = omega (arith, rows c)
 
--- src/table.rt:90:5
 add-result : tie.Need-add-result
-add-result c = ?
+add-result c = omega (arith, rows c)
 
--- src/table.rt:86:1
 returns : tie.Need-returns
-returns c = ?
+unfolding rowAt
+returns c = simp (c .row-length .ensures .0)
 
 pub row-at-spec : {M : Type 1} → statement M
 row-at-spec = tie.close (tie.spec row-length-requires mul-result add-result returns)
