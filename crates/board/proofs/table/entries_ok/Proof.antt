@@ -78,7 +78,7 @@ unfolding entriesOk
 returns-2 c =
     let l = c .before in
     let e : l .loop .input ≡ 2 ^ entry (l .before) .args .inputs = omega (arith, l .before .pow2 .ensures) in
-    rw (← e, l .loop .inv .1)
+    sym (rw e at (l .loop .inv .1))
 
 pub entries-ok-spec : {M : Type 1} → statement M
 entries-ok-spec =

@@ -1,44 +1,56 @@
+-- `board::table::row_ok`: the tests in the definition's order. Assumes nothing.
+use native.Mathlib.Omega.{arith}
+use mathlib.Core.Path.{_≡_}
+use mathlib.Core.Bool.{Bool, true, false}
+use Prim.Native.Nat.{_≤_, _*_, _^_}
+use lib.Pow.{pow-mono}
+use denote.Ref.{now}
+use Rattle.records.specs.Tests.{said}
+use Rattle.records.specs.Layout.{entryWidth, headerIs}
+use Rattle.records.specs.GuardTable.{rowAt, row-inside}
+use Rattle.board.specs.Table.{rowOk}
 use borrow.Author.Needs.{needs}
 use Rattle.board.proofs.table.row_ok.Statement.{statement}
 use Rattle.board.proofs.table.row_ok.Tie as tie
-use Rattle.board.proofs.table.row_ok.Reads as reads
-use Rattle.board.proofs.table.row_ok.Lts as lts
-use Rattle.board.proofs.table.entries_ok.Reads as entries-ok-reads
-use Rattle.board.proofs.table.row_at.Reads as row-at-reads
-use Rattle.records.proofs.layout.header_is.Reads as header-is-reads
-use Rattle.records.proofs.numbers.pow2.Reads as pow2-reads
 
--- src/table.rt:98:20
+abbrev entry : tie.After-pow2 → tie.Start
+entry c = c .before .before
+
+few : (c : tie.After-pow2) → c .pow2 .result ≤ 16
+few c = let m = pow-mono {i = entry c .args .inputs} {j = 4} (omega arith) in omega (arith, m, c .pow2 .ensures)
+
+-- the test of the header is the definition's
+header-test : (c : tie.After-header-is) (f : Bool) → c .header-is .result ≡ f
+    → headerIs (now (entry (c .before .before) .args .t)) (rowAt (entry (c .before .before) .args .inputs) (entry (c .before .before) .args .place))
+    (entryWidth * 2 ^ entry (c .before .before) .args .inputs) 17 ≡ f
+header-test c f e = rw (c .before .row-at .ensures, c .before .before .pow2 .ensures) at (said (c .header-is .ensures) e)
+
 pow2-requires : tie.Need-pow2-requires
 pow2-requires c κs = search needs
 
--- src/table.rt:98:16
 mul-size : tie.Need-mul-size
-mul-size c = ?
+mul-size c = omega (arith, few c)
 
--- src/table.rt:99:21
 row-at-requires : tie.Need-row-at-requires
 row-at-requires c κs = search needs
 
--- src/table.rt:99:44
 cast-header-is : tie.Need-cast-header-is
-cast-header-is c = ?
+cast-header-is c = omega (arith, few (c .before))
 
--- src/table.rt:99:8
 header-is-requires : tie.Need-header-is-requires
-header-is-requires c κs = ?
+header-is-requires c κs = let s = entry (c .before) in
+    omega (arith, row-inside (s .args .inputs) (s .args .place) (s .args .count) (s .pre .1), c .row-at .ensures, s .pre .0 .fills)
 
--- src/table.rt:100:9
 entries-ok-requires : tie.Need-entries-ok-requires
 entries-ok-requires c κs = search needs
 
--- src/table.rt:100:9
 returns : tie.Need-returns
-returns c = ?
+unfolding rowOk
+returns c = simp (header-test (c .before .before) true (c .before .if1 .taken)) (c .entries-ok .ensures)
 
--- src/table.rt:94:1
 returns-2 : tie.Need-returns-2
-returns-2 c = ?
+unfolding rowOk
+returns-2 c = simp (header-test (c .before) false (c .if1 .left))
 
 pub row-ok-spec : {M : Type 1} → statement M
 row-ok-spec =

@@ -1,42 +1,52 @@
+-- `board::table::rows_ok`: the rows passed are in order. Assumes nothing.
+use native.Mathlib.Omega.{arith}
+use Prim.Native.Nat.{_≤_, _-_}
+use mathlib.Core.Path.{_≡_, sym}
+use mathlib.Core.Bool.{true}
+use Rattle.records.specs.Tests.{said-no, said-yes}
+use Rattle.records.specs.Bounded.{all, all-none, all-more, all-fails}
+use Rattle.board.specs.Table.{rowOk, rowsOk}
 use Rattle.board.proofs.table.rows_ok.Statement.{statement}
 use Rattle.board.proofs.table.rows_ok.Tie as tie
-use Rattle.board.proofs.table.rows_ok.Reads as reads
-use Rattle.board.proofs.table.rows_ok.Lts as lts
-use Rattle.board.proofs.table.row_ok.Reads as row-ok-reads
 
 abbrev Inv-loop : tie.InvT-loop
-Inv-loop t inputs outputs count place₀ place = ?
+Inv-loop t inputs outputs count place₀ place = (place ≤ count) × (all place (rowOk t inputs outputs count) ≡ true)
 
 abbrev μ-loop : tie.MeasureT-loop
-μ-loop t inputs outputs count place₀ place = ?
+μ-loop t inputs outputs count place₀ place = count - place
 
--- src/table.rt:111:5
+-- the loop's head, from a turn with its row tested
+abbrev turn : tie.After-row-ok Inv-loop μ-loop → tie.At-loop Inv-loop μ-loop
+turn c = c .before .before
+
 loop-holds : tie.Need-loop-holds Inv-loop μ-loop
-loop-holds c = ?
+loop-holds c = (omega arith, all-none _)
 
--- src/table.rt:112:13
 row-ok-requires : tie.Need-row-ok-requires Inv-loop μ-loop
-row-ok-requires c κs = ?
+row-ok-requires c κs = (c .before .before .before .pre, c .loop-test .taken)
 
--- src/table.rt:113:13
 returns : tie.Need-returns Inv-loop μ-loop
-returns c = ?
+unfolding rowsOk
+returns c =
+    sym (all-fails _ _ (turn (c .before) .loop .place) (c .before .before .loop-test .taken) (said-no (c .before .row-ok .ensures) (c .if1 .taken)))
 
--- src/table.rt:115:9
 add-place : tie.Need-add-place Inv-loop μ-loop
-add-place c = ?
+add-place c = omega arith
 
--- src/table.rt:111:5
 loop-less : tie.Need-loop-less Inv-loop μ-loop
-loop-less c = ?
+loop-less c = omega arith
 
--- src/table.rt:111:5
 loop-again : tie.Need-loop-again Inv-loop μ-loop
-loop-again c = ?
+loop-again c =
+    let l = turn (c .before) .loop in
+    (omega arith, all-more _ (l .place) (l .inv .1) (said-yes (c .before .row-ok .ensures) (c .if1 .left)))
 
--- src/table.rt:106:1
 returns-2 : tie.Need-returns-2 Inv-loop μ-loop
-returns-2 c = ?
+unfolding rowsOk
+returns-2 c =
+    let l = c .before in
+    let e : l .loop .place ≡ l .before .before .args .count = omega arith in
+    sym (rw e at (l .loop .inv .1))
 
 pub rows-ok-spec : {M : Type 1} → statement M
 rows-ok-spec =
