@@ -65,7 +65,7 @@ counts-on b (step t i) es h =
     let Kept : Stepping → Type 0 = λ r. Counts (r .board) (stepEvent t i r ∷ es) in
     by-test (live b)
     (λ e. elim (step-case b e t i) [
-      refused a n q ↦ subst Kept (sym q) (pass b _ es refl (rw n) h)
+      | refused a n q ↦ subst Kept (sym q) (pass b _ es refl (rw n) h)
       | taken s f q ↦ subst Kept (sym q) (count-taken b t i (outputAt b t i) (nextAt b t i) es e h)
     ])
     (λ e. subst Kept (sym (step-empty b e t i)) (idle b _ e))

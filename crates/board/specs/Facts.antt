@@ -41,7 +41,7 @@ live-facts b e =
       steps = leb-true (b .steps) maxSteps (search (and-left, and-right) depth 9);
       deviations = leb-true (b .deviations) (b .steps) (search (and-left, and-right) depth 9);
       controller = λ z. eqb-true (b .deviations) 0
-      (or-not (eqb (b .mode) 1) (eqb (b .deviations) 0) (search (and-left, and-right) depth 9) (ne-eqb (b .mode) 1 (λ q. omega arith)));
+          (or-not (eqb (b .mode) 1) (eqb (b .deviations) 0) (search (and-left, and-right) depth 9) (ne-eqb (b .mode) 1 (λ q. omega arith)));
     }
 
 pub facts-live : (b : Board) → Live b → live b ≡ true

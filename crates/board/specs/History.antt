@@ -70,7 +70,7 @@ begins e = elim (e .call) [ load t ↦ eqb (e .number) 0 | step t i ↦ false | 
 abbrev pub strays : ℕ → ℕ → Event → Bool
 strays inputs outputs e =
     elim (e .call) [
-      load t ↦ false
+      | load t ↦ false
       | step t i ↦ eqb (e .number) 0 && not (eqb (e .output) (proposal inputs outputs i))
       | rewind ↦ false
       | unload ↦ false

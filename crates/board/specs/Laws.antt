@@ -7,7 +7,7 @@ use Prim.Native.Nat.{ℕ, _+_, _^_, _≤_, _<_}
 use native.Mathlib.Omega.{arith}
 use lib.Dec.{ltb, leb, eqb}
 use lib.ListN.{length, getD}
-use borrow.Author.Tests.{leb-true, leb-false, ltb-true, lt-ltb, lt-leb, le-leb, eq-eqb}
+use borrow.Author.Tests.{leb-true, leb-false, ltb-true, lt-ltb, le-ltb, lt-leb, le-leb, eq-eqb}
 use Rattle.records.specs.Tests.{and-left, and-right, and-both, by-test}
 use Rattle.records.specs.Numbers.{u16At}
 use Rattle.records.specs.Limits.{maxStates, maxSteps, linesOk}
@@ -97,6 +97,14 @@ pub run-shows : (b : Board) (t : List ℕ) (place steps deviations : ℕ) → Sh
 unfolding runAt
 run-shows b t p s d h = record { mode = h .mode; inputs = h .inputs; outputs = h .outputs; count = h .count }
 
+-- ---- a step
+
+-- it looks at the slice's length and at the entry's two bytes, and at nothing else of the slice
+pub step-reads : (b : Board) (t u : List ℕ) (i : ℕ) → length t ≡ length u → outputAt b t i ≡ outputAt b u i → nextAt b t i ≡ nextAt b u i
+    → stepOn b t i ≡ stepOn b u i
+unfolding stepOn lookedUp entryFits entryOk outputAt nextAt
+step-reads b t u i l o n = rw (l, o, n)
+
 -- ---- a live board
 
 -- a run at a point in range is live
@@ -177,7 +185,7 @@ module _ (b : Board) (e : live b ≡ true) where
   pub step-live : (t : List ℕ) (i : ℕ) → live (stepOn b t i .board) ≡ true
   step-live t i =
       elim (step-case t i) [
-        refused a n q ↦ rw q e
+        | refused a n q ↦ rw q e
         | taken s f q ↦ rw q (moved-live i (outputAt b t i) (nextAt b t i) s (next-inside b t i f))
       ]
 
@@ -187,6 +195,16 @@ module _ (b : Board) (e : live b ≡ true) where
   stays-live (step t i) n = step-live t i
   stays-live rewind n = ap (λ (r : Changing). live (r .board)) rewind-live ∙ rewound-live
   stays-live unload n = absurd (n refl)
+
+  -- a step is refused 22 after its last one, and else 12 at an input out of range, whatever the slice
+  pub step-spent : (t : List ℕ) (i : ℕ) → maxSteps ≤ b .steps → stepOn b t i ≡ record { board = b; answer = Spent }
+  unfolding stepOn
+  step-spent t i h = simp (e, le-leb _ _ h)
+
+  pub step-stranger : (t : List ℕ) (i : ℕ) → b .steps < maxSteps → 2 ^ b .inputs ≤ i
+      → stepOn b t i ≡ record { board = b; answer = BadInput }
+  unfolding stepOn
+  step-stranger t i h k = simp (e, lt-leb _ _ h, le-ltb _ _ k)
 
   -- ---- that holds a loadable table
   module _ (t : List ℕ) (l : loadable t ≡ true) (s : Shows b t) (i : ℕ) where
@@ -210,11 +228,3 @@ module _ (b : Board) (e : live b ≡ true) where
     pub step-taken : b .steps < maxSteps → i < 2 ^ b .inputs → stepOn b t i ≡ moved b i (outputAt b t i) (nextAt b t i)
     unfolding stepOn lookedUp
     step-taken h k = simp (e, lt-leb _ _ h, lt-ltb _ _ k, entry-fits k)
-
-    pub step-spent : maxSteps ≤ b .steps → stepOn b t i ≡ record { board = b; answer = Step.Spent }
-    unfolding stepOn
-    step-spent h = simp (e, le-leb _ _ h)
-
-    pub step-stranger : b .steps < maxSteps → 2 ^ b .inputs ≤ i → stepOn b t i ≡ record { board = b; answer = Step.BadInput }
-    unfolding stepOn
-    step-stranger h k = simp (e, lt-leb _ _ h, borrow.Author.Tests.le-ltb _ _ k)

@@ -39,7 +39,7 @@ unfoldable pub moved : Board → ℕ → ℕ → ℕ → Stepping
 moved b input output next =
     record {
       board =
-        runAt b next (b .steps + 1) (b .deviations + cond (deviates (b .mode) (b .inputs) (b .outputs) input output) 1 0);
+          runAt b next (b .steps + 1) (b .deviations + cond (deviates (b .mode) (b .inputs) (b .outputs) input output) 1 0);
       answer = Output output;
     }
 

@@ -1,5 +1,6 @@
 // What the calls on a board hand back: the board, and an answer. The numbers are document 01's refusals.
 use crate::Board;
+ghost use mathlib.Core.Path.{_≡_};
 
 pub enum Load {
     Loaded,
@@ -12,6 +13,14 @@ pub enum Load {
 pub struct Loading {
     pub board: Board,
     pub answer: Load,
+}
+
+impl Loading {
+    pub fn of(board: Board, answer: Load) -> Loading
+        ensures { λ r. ⌜ r ≡ record { board = board; answer = answer } ⌝ }
+    {
+        Loading { board, answer }
+    }
 }
 
 pub enum Step {
@@ -31,6 +40,14 @@ pub struct Stepping {
     pub answer: Step,
 }
 
+impl Stepping {
+    pub fn of(board: Board, answer: Step) -> Stepping
+        ensures { λ r. ⌜ r ≡ record { board = board; answer = answer } ⌝ }
+    {
+        Stepping { board, answer }
+    }
+}
+
 // Of rewind and unload.
 pub enum Change {
     Done,
@@ -41,4 +58,12 @@ pub enum Change {
 pub struct Changing {
     pub board: Board,
     pub answer: Change,
+}
+
+impl Changing {
+    pub fn of(board: Board, answer: Change) -> Changing
+        ensures { λ r. ⌜ r ≡ record { board = board; answer = answer } ⌝ }
+    {
+        Changing { board, answer }
+    }
 }

@@ -112,21 +112,12 @@ impl Board {
         ensures { λ r. ⌜ LoadPromise self (now (table .entry)) r ⌝ }
     {
         if self.is_live() {
-            return Loading {
-                board: self,
-                answer: Load::Occupied,
-            };
+            return Loading::of(self, Load::Occupied);
         }
         if table::is_loadable(table) {
-            return Loading {
-                board: table::board_of(table),
-                answer: Load::Loaded,
-            };
+            return Loading::of(table::board_of(table), Load::Loaded);
         }
-        Loading {
-            board: self,
-            answer: Load::BadTable,
-        }
+        Loading::of(self, Load::BadTable)
     }
 
     // Answers an input by the table's entry at the board's place. Refuses 20, 22, 12, 11.
@@ -134,22 +125,13 @@ impl Board {
         ensures { λ r. ⌜ StepPromise self (now (table .entry)) input r ⌝ }
     {
         if !self.is_live() {
-            return Stepping {
-                board: self,
-                answer: Step::Empty,
-            };
+            return Stepping::of(self, Step::Empty);
         }
         if Board::STEP_LIMIT <= self.steps {
-            return Stepping {
-                board: self,
-                answer: Step::Spent,
-            };
+            return Stepping::of(self, Step::Spent);
         }
         if pow2(self.inputs) <= input as usize {
-            return Stepping {
-                board: self,
-                answer: Step::BadInput,
-            };
+            return Stepping::of(self, Step::BadInput);
         }
         self.look_up(table, input)
     }
@@ -164,19 +146,13 @@ impl Board {
         };
         let count = self.count as usize;
         if table.len() != layout.table_length(count) {
-            return Stepping {
-                board: self,
-                answer: Step::BadTable,
-            };
+            return Stepping::of(self, Step::BadTable);
         }
         let at = layout.entry_at(self.place as usize, input as usize);
         if table::entry_ok(table, at, self.outputs, count) {
             return self.moved(input, table[at], table[at + 1]);
         }
-        Stepping {
-            board: self,
-            answer: Step::BadTable,
-        }
+        Stepping::of(self, Step::BadTable)
     }
 
     // The step of a live board to a next state, with its output.
@@ -188,10 +164,10 @@ impl Board {
         if strays(self.mode, self.inputs, self.outputs, input, output) {
             deviations += 1;
         }
-        Stepping {
-            board: self.run_at(next as u16, self.steps + 1, deviations),
-            answer: Step::Output(output),
-        }
+        Stepping::of(
+            self.run_at(next as u16, self.steps + 1, deviations),
+            Step::Output(output),
+        )
     }
 
     // Begins the run of the loaded table anew. Refuses 20.
@@ -199,15 +175,9 @@ impl Board {
         ensures { λ r. ⌜ RewindPromise self r ⌝ }
     {
         if self.is_live() {
-            return Changing {
-                board: self.run_at(0, 0, 0),
-                answer: Change::Done,
-            };
+            return Changing::of(self.run_at(0, 0, 0), Change::Done);
         }
-        Changing {
-            board: self,
-            answer: Change::Empty,
-        }
+        Changing::of(self, Change::Empty)
     }
 
     // Empties the board. Refuses 20.
@@ -215,15 +185,9 @@ impl Board {
         ensures { λ r. ⌜ UnloadPromise self r ⌝ }
     {
         if self.is_live() {
-            return Changing {
-                board: Board::empty(),
-                answer: Change::Done,
-            };
+            return Changing::of(Board::empty(), Change::Done);
         }
-        Changing {
-            board: self,
-            answer: Change::Empty,
-        }
+        Changing::of(self, Change::Empty)
     }
 
     // The board with its table's run at another point.

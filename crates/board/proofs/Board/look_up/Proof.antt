@@ -55,9 +55,13 @@ table-length-requires c κs = let h = facts (start c) in
     let l = lines (start c) in
     omega arith
 
+of-requires : tie.Need-of-requires
+of-requires c κs = search needs
+
 returns : tie.Need-returns
 unfolding lookedUp entryFits
-returns c = simp (ne-eqb _ _ (λ e. c .if1 .taken (e ∙ sym (c .before .table-length .ensures))))
+returns c = let d = c .before in
+    simp (c .of .ensures, ne-eqb _ _ (λ e. d .if1 .taken (e ∙ sym (d .before .table-length .ensures))))
 
 cast-entry-at : tie.Need-cast-entry-at
 cast-entry-at c = search needs
@@ -84,12 +88,15 @@ moved-requires c κs = search needs
 
 returns-2 : tie.Need-returns-2
 unfolding lookedUp outputAt nextAt
-returns-2 c = let d = c .before .before .before .before in
-    simp (fits d true (c .before .before .before .if2 .taken), c .moved .ensures, d .before .entry-at .ensures)
+returns-2 c = let d = c .before .before .before in
+    simp (fits (d .before) true (d .if2 .taken), c .moved .ensures, d .before .before .entry-at .ensures)
+
+of-requires-2 : tie.Need-of-requires-2
+of-requires-2 c κs = search needs
 
 returns-3 : tie.Need-returns-3
 unfolding lookedUp
-returns-3 c = simp (fits (c .before) false (c .if2 .left))
+returns-3 c = simp (c .of2 .ensures, fits (c .before .before) false (c .before .if2 .left))
 
 pub look-up-spec : {M : Type 1} → statement M
 look-up-spec =
@@ -97,6 +104,7 @@ look-up-spec =
     (tie.spec
     cast-count
     table-length-requires
+    of-requires
     returns
     cast-entry-at
     entry-at-requires
@@ -106,4 +114,5 @@ look-up-spec =
     shared-slice-read-moved-2
     moved-requires
     returns-2
+    of-requires-2
     returns-3)

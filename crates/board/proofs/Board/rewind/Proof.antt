@@ -12,13 +12,23 @@ is-live-requires c κs = search needs
 run-at-requires : tie.Need-run-at-requires
 run-at-requires c κs = search needs
 
+of-requires : tie.Need-of-requires
+of-requires c κs = search needs
+
 returns : tie.Need-returns
 unfolding rewindOn
-returns c = rewind-promise _ _ (simp (said (c .before .before .is-live .ensures) (c .before .if1 .taken), c .run-at .ensures))
+returns c = let d = c .before .before in
+    rewind-promise _ _ (simp (c .of .ensures, said (d .before .is-live .ensures) (d .if1 .taken), c .before .run-at .ensures))
+
+of-requires-2 : tie.Need-of-requires-2
+of-requires-2 c κs = search needs
 
 returns-2 : tie.Need-returns-2
 unfolding rewindOn
-returns-2 c = rewind-promise _ _ (simp (said (c .before .is-live .ensures) (c .if1 .left)))
+returns-2 c = let d = c .before in
+    rewind-promise _ _ (simp (c .of2 .ensures, said (d .before .is-live .ensures) (d .if1 .left)))
 
 pub rewind-spec : {M : Type 1} → statement M
-rewind-spec = tie.close (tie.spec is-live-requires run-at-requires returns returns-2)
+rewind-spec =
+    tie.close
+    (tie.spec is-live-requires run-at-requires of-requires returns of-requires-2 returns-2)

@@ -12,13 +12,23 @@ is-live-requires c κs = search needs
 empty-requires : tie.Need-empty-requires
 empty-requires c κs = search needs
 
+of-requires : tie.Need-of-requires
+of-requires c κs = search needs
+
 returns : tie.Need-returns
 unfolding unloadOn
-returns c = unload-promise _ _ (simp (said (c .before .before .is-live .ensures) (c .before .if1 .taken), c .empty .ensures .whole))
+returns c = let d = c .before .before in
+    unload-promise _ _ (simp (c .of .ensures, said (d .before .is-live .ensures) (d .if1 .taken), c .before .empty .ensures .whole))
+
+of-requires-2 : tie.Need-of-requires-2
+of-requires-2 c κs = search needs
 
 returns-2 : tie.Need-returns-2
 unfolding unloadOn
-returns-2 c = unload-promise _ _ (simp (said (c .before .is-live .ensures) (c .if1 .left)))
+returns-2 c = let d = c .before in
+    unload-promise _ _ (simp (c .of2 .ensures, said (d .before .is-live .ensures) (d .if1 .left)))
 
 pub unload-spec : {M : Type 1} → statement M
-unload-spec = tie.close (tie.spec is-live-requires empty-requires returns returns-2)
+unload-spec =
+    tie.close
+    (tie.spec is-live-requires empty-requires of-requires returns of-requires-2 returns-2)

@@ -68,10 +68,11 @@ loop-less c = omega arith
 
 loop-again : tie.Need-loop-again Inv-loop μ-loop
 loop-again c =
-    let d = c .before .before in
-    (omega arith,
-    all-more _ (turn d .loop .input) (turn d .loop .inv .1)
-    (rw (d .entry-at .ensures) at (said-yes (c .before .entry-ok .ensures) (c .if1 .left))))
+    let d = c .before .before in (
+      omega arith,
+      all-more _ (turn d .loop .input) (turn d .loop .inv .1)
+          (rw (d .entry-at .ensures) at (said-yes (c .before .entry-ok .ensures) (c .if1 .left))),
+    )
 
 returns-2 : tie.Need-returns-2 Inv-loop μ-loop
 unfolding entriesOk
