@@ -35,8 +35,12 @@ lines c = lines-facts _ _ _ (facts c .lines)
 inside : (c : tie.After-entry-at) → c .entry-at .result + 1 < length (now (entry c .args .table))
 inside c =
     let a = entry c .args in
-    omega (arith, entry-inside (a .self .inputs) (a .self .place) (a .self .count) (a .input) (facts (entry c) .place) (entry c .pre .1),
-    c .entry-at .ensures, sized c .before .table-length .ensures)
+    omega (
+      arith,
+      entry-inside (a .self .inputs) (a .self .place) (a .self .count) (a .input) (facts (entry c) .place) (entry c .pre .1),
+      c .entry-at .ensures,
+      sized c .before .table-length .ensures,
+    )
 
 -- the test of the entry is the definition's
 fits : (c : tie.After-entry-ok) (f : Bool) → c .entry-ok .result ≡ f
