@@ -1,7 +1,6 @@
 -- Worked examples, by computation: sheet A's guard table, and a shield's table for P7's run.
 -- Assumes nothing.
 use mathlib.Core.Path.{_≡_, refl}
-use mathlib.Core.Bool.{true, false}
 use mathlib.Core.List.{List, [], _∷_, map}
 use Prim.Native.Nat.{ℕ, _-_}
 use Rattle.records.specs.Bounded.{all}

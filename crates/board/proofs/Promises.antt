@@ -1,6 +1,6 @@
 -- From the whole result of a call to all that it promises.
 -- Assumes nothing.
-use mathlib.Core.Path.{_≡_, refl, ap, _∙_}
+use mathlib.Core.Path.{_≡_, refl}
 use mathlib.Core.Bool.{Bool, true, false, cond}
 use mathlib.Core.List.{List}
 use Prim.Native.Nat.{ℕ, _^_}
@@ -9,15 +9,13 @@ use Rattle.records.specs.Tests.{by-test}
 use Rattle.records.specs.Limits.{maxSteps}
 use Rattle.board.specs.Board.{live, emptyBoard, rewindOn, unloadOn, changeNumber, changeRefusal}
 use Rattle.board.specs.Table.{loadable, loadOn, loadNumber, loadRefusal}
-use Rattle.board.specs.Step.{outputAt, nextAt, entryFits, moved, lookedUp, stepOn, stepNumber, stepOutput, stepRefusal, stepGiven}
-use Rattle.board.specs.History.{load, step, rewind, unload, KeepsCount, loadEvent, stepEvent, rewindEvent, unloadEvent}
+use Rattle.board.specs.Step.{outputAt, entryFits, moved, lookedUp, stepOn, stepNumber, stepOutput, stepRefusal, stepGiven}
+use Rattle.board.specs.History.{load, step, rewind, unload}
 use Rattle.board.specs.Laws.{empty-board}
 use Rattle.board.specs.Counting.{counted, keeps-count}
 use Rattle.board.specs.Promises.{EmptyPromise, LoadPromise, StepPromise, RewindPromise, UnloadPromise}
 use Rattle.board.specs.declared.Board.{Board}
-use Rattle.board.specs.declared.answers.Load.{Load}
 use Rattle.board.specs.declared.answers.Loading.{Loading}
-use Rattle.board.specs.declared.answers.Step.{Step}
 use Rattle.board.specs.declared.answers.Stepping.{Stepping}
 use Rattle.board.specs.declared.answers.Changing.{Changing}
 

@@ -1,6 +1,6 @@
 -- The board record (document 01, 'The board'): its ranges, and what rewind and unload hand back.
 -- Assumes nothing.
-use mathlib.Core.Bool.{Bool, true, false, cond, _&&_, _||_}
+use mathlib.Core.Bool.{Bool, false, cond, _&&_, _||_}
 use Prim.Native.Nat.{ℕ}
 use lib.Dec.{ltb, leb, eqb}
 use Rattle.records.specs.Limits.{maxStates, maxSteps, linesOk}

@@ -1,22 +1,19 @@
 -- A board counts its deviations (demand 2's last sentence): over every list of calls with any slices and inputs, from any
 -- board that counts as empty.
 -- Assumes nothing.
-use mathlib.Core.Path.{_≡_, refl, sym, ap, subst, _∙_}
-use mathlib.Core.Bool.{Bool, true, false, cond, not, _&&_}
+use mathlib.Core.Path.{_≡_, refl, sym, subst}
+use mathlib.Core.Bool.{true, false}
 use mathlib.Core.List.{List, [], _∷_}
-use Prim.Native.Nat.{ℕ, _+_}
+use Prim.Native.Nat.{ℕ}
 use native.Mathlib.Nat.{zero-add, add-zero, add-comm}
-use native.Mathlib.Omega.{arith}
-use lib.Dec.{eqb}
 use borrow.Author.Tests.{eq-eqb}
 use Rattle.records.specs.Tests.{both-ways, by-test}
-use Rattle.board.specs.Board.{live, emptyBoard, runAt, rewindOn, unloadOn, changeNumber}
-use Rattle.board.specs.Table.{loadable, boardOf, loadOn, loadNumber}
-use Rattle.board.specs.Step.{proposal, deviates, outputAt, nextAt, moved, stepOn, stepNumber, stepOutput}
+use Rattle.board.specs.Board.{live, emptyBoard, runAt}
+use Rattle.board.specs.Table.{loadable, boardOf}
+use Rattle.board.specs.Step.{deviates, outputAt, nextAt, moved}
 use Rattle.board.specs.History.{Call, load, step, rewind, unload, Event, loadEvent, stepEvent, rewindEvent, unloadEvent, handed, answered, after, history, begins, strays, strayed, Counts, KeepsCount}
-use Rattle.board.specs.Laws.{empty-board, load-empty, load-bad, step-empty, rewind-empty, unload-empty, load-occupied, rewind-live, unload-live, step-case, StepCase, refused, taken}
+use Rattle.board.specs.Laws.{empty-board, load-empty, load-bad, step-empty, rewind-empty, unload-empty, load-occupied, rewind-live, unload-live, step-case, refused, taken}
 use Rattle.board.specs.declared.Board.{Board}
-use Rattle.board.specs.declared.answers.Load.{Load}
 use Rattle.board.specs.declared.answers.Loading.{Loading}
 use Rattle.board.specs.declared.answers.Stepping.{Stepping}
 use Rattle.board.specs.declared.answers.Changing.{Changing}

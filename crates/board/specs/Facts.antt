@@ -1,14 +1,14 @@
 -- What the tests of a board and of a table tell, as facts about their numbers.
 -- Assumes nothing.
-use mathlib.Core.Path.{_≡_, refl, sym, _∙_}
-use mathlib.Core.Bool.{Bool, true, false, _&&_, _||_}
+use mathlib.Core.Path.{_≡_}
+use mathlib.Core.Bool.{true, false, _||_}
 use mathlib.Core.List.{List}
-use Prim.Native.Nat.{ℕ, _+_, _^_, _≤_, _<_}
+use Prim.Native.Nat.{ℕ, _^_, _≤_, _<_}
 use native.Mathlib.Omega.{arith}
-use lib.Dec.{ltb, leb, eqb}
+use lib.Dec.{eqb}
 use lib.ListN.{length, getD}
 use borrow.Author.Tests.{leb-true, ltb-true, eqb-true, eqb-false, lt-ltb, le-leb, eq-eqb, ne-eqb}
-use Rattle.records.specs.Tests.{and-left, and-right, and-both, or-not, or-left, or-right, by-test}
+use Rattle.records.specs.Tests.{and-left, and-right, or-not, or-left, or-right, by-test}
 use Rattle.records.specs.Bounded.{all, all-at}
 use Rattle.records.specs.Numbers.{u16At}
 use Rattle.records.specs.Limits.{maxStates, maxSteps, linesOk, horizonOk, lines-facts}

@@ -5,14 +5,13 @@ use mathlib.Core.Bool.{true}
 use mathlib.Core.List.{List}
 use Prim.Native.Nat.{ℕ, _+_, _^_, _≤_, _<_}
 use native.Mathlib.Omega.{arith}
-use lib.Dec.{ltb, leb, eqb}
-use lib.ListN.{length, getD}
+use lib.Dec.{leb}
+use lib.ListN.{getD}
 use borrow.Author.Tests.{lt-ltb, le-leb, eq-eqb}
 use Rattle.records.specs.Tests.{and-both}
 use Rattle.records.specs.Bounded.{all-of}
-use Rattle.records.specs.Numbers.{u16At}
 use Rattle.records.specs.Limits.{maxStates, maxSteps, linesOk, horizonOk}
-use Rattle.records.specs.Layout.{entryWidth, tableLength, entryAt, headerIs, guardTable}
+use Rattle.records.specs.Layout.{tableLength, entryAt, guardTable}
 use Rattle.records.specs.GuardTable.{HeadReads, table-head, row-header, entry-output, entry-next}
 use Rattle.board.specs.Board.{live}
 use Rattle.board.specs.Step.{outputAt, nextAt, moved, stepOn}

@@ -1,28 +1,27 @@
 -- What the calls on a board do, as the layers above use it.
 -- Assumes nothing.
-use mathlib.Core.Path.{_≡_, refl, sym, ap, ap₂, _∙_}
-use mathlib.Core.Bool.{Bool, true, false, cond, not, _&&_}
+use mathlib.Core.Path.{_≡_, refl, ap, _∙_}
+use mathlib.Core.Bool.{Bool, true, false, cond, _&&_}
 use mathlib.Core.List.{List}
 use Prim.Native.Nat.{ℕ, _+_, _^_, _≤_, _<_}
 use native.Mathlib.Omega.{arith}
 use lib.Dec.{ltb, leb, eqb}
 use lib.ListN.{length, getD}
-use borrow.Author.Tests.{leb-true, leb-false, ltb-true, lt-ltb, le-ltb, lt-leb, le-leb, eq-eqb}
+use borrow.Author.Tests.{leb-false, ltb-true, lt-ltb, le-ltb, lt-leb, le-leb, eq-eqb}
 use Rattle.records.specs.Tests.{and-left, and-right, and-both, by-test}
 use Rattle.records.specs.Numbers.{u16At}
-use Rattle.records.specs.Limits.{maxStates, maxSteps, linesOk}
+use Rattle.records.specs.Limits.{maxSteps}
 use Rattle.records.specs.Layout.{tableLength, entryAt}
-use Rattle.board.specs.Board.{countsOk, live, emptyBoard, runAt, rewindOn, unloadOn}
+use Rattle.board.specs.Board.{live, emptyBoard, runAt, rewindOn, unloadOn}
 use Rattle.board.specs.Table.{entryOk, loadable, boardOf, loadOn}
 use Rattle.board.specs.Step.{deviates, outputAt, nextAt, entryFits, moved, lookedUp, stepOn, stepNumber, stepRefusal}
 use Rattle.board.specs.History.{Call, load, step, rewind, unload, handed}
-use Rattle.board.specs.Facts.{Live, live-facts, facts-live, Head, loadable-head, loadable-entry}
+use Rattle.board.specs.Facts.{live-facts, facts-live, loadable-head, loadable-entry}
 use Rattle.board.specs.declared.Board.{Board}
 use Rattle.board.specs.declared.answers.Load.{Load}
 use Rattle.board.specs.declared.answers.Loading.{Loading}
 use Rattle.board.specs.declared.answers.Step.{Step}
-use Rattle.board.specs.declared.answers.Step.the-variants.{Output, Empty, Spent, BadInput, BadTable}
-use Rattle.board.specs.declared.answers.Stepping.{Stepping}
+use Rattle.board.specs.declared.answers.Step.the-variants.{Empty, Spent, BadInput, BadTable}
 use Rattle.board.specs.declared.answers.Change.{Change}
 use Rattle.board.specs.declared.answers.Changing.{Changing}
 

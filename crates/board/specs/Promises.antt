@@ -1,7 +1,7 @@
 -- What each public call promises, for all arguments.
 -- Assumes nothing.
 use mathlib.Core.Path.{_≡_}
-use mathlib.Core.List.{List, [], _∷_}
+use mathlib.Core.List.{List}
 use Prim.Native.Nat.{ℕ}
 use Rattle.board.specs.Board.{emptyBoard, rewindOn, unloadOn, changeNumber, changeRefusal}
 use Rattle.board.specs.Table.{loadOn, loadNumber, loadRefusal}

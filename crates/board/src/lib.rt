@@ -58,7 +58,7 @@ fn counts_ok(mode: u8, count: u16, place: u16, steps: u32, deviations: u32) -> b
 }
 
 // Whether, in mode 1, the output is not what the input proposes.
-fn strays(mode: u8, inputs: u8, outputs: u8, input: u8, output: u8) -> bool
+fn deviates(mode: u8, inputs: u8, outputs: u8, input: u8, output: u8) -> bool
     requires { ⌜ linesOk mode inputs outputs ≡ true ⌝ }
     ensures { λ r. ⌜ r ≡ deviates mode inputs outputs input output ⌝ }
 {
@@ -161,7 +161,7 @@ impl Board {
         ensures { λ r. ⌜ r ≡ moved self input output next ⌝ }
     {
         let mut deviations = self.deviations;
-        if strays(self.mode, self.inputs, self.outputs, input, output) {
+        if deviates(self.mode, self.inputs, self.outputs, input, output) {
             deviations += 1;
         }
         Stepping::of(

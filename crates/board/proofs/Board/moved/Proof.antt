@@ -1,4 +1,4 @@
--- `board::Board::moved`: one deviation more where the output strays. Assumes nothing.
+-- `board::Board::moved`: one deviation more where the output is not the proposal. Assumes nothing.
 use native.Mathlib.Omega.{arith}
 use native.Mathlib.Nat.{add-zero}
 use mathlib.Core.Logic.{⊎-elim}
@@ -12,8 +12,8 @@ use Rattle.board.proofs.Board.moved.Tie as tie
 facts : (c : tie.Start) → Live (c .args .self)
 facts c = live-facts (c .args .self) (c .pre)
 
-strays-requires : tie.Need-strays-requires
-strays-requires c κs = facts c .lines
+deviates-requires : tie.Need-deviates-requires
+deviates-requires c κs = facts c .lines
 
 add-deviations : tie.Need-add-deviations
 add-deviations c = let h = facts (c .before .before) in omega arith
@@ -30,7 +30,7 @@ of-requires c κs = search needs
 returns : tie.Need-returns
 unfolding moved
 returns c = let r = c .before in
-    let told = r .before .before .before .strays .ensures in
+    let told = r .before .before .before .deviates .ensures in
     ⊎-elim (λ w. simp (c .of .ensures, r .run-at .ensures, w .1, said told (w .0 .taken)))
     (λ w. simp (c .of .ensures, r .run-at .ensures, w .1, said told (w .0 .left), add-zero))
     (r .before .before .if1 .came)
@@ -38,4 +38,4 @@ returns c = let r = c .before in
 pub moved-spec : {M : Type 1} → statement M
 moved-spec =
     tie.close
-    (tie.spec strays-requires add-deviations add-run-at run-at-requires of-requires returns)
+    (tie.spec deviates-requires add-deviations add-run-at run-at-requires of-requires returns)

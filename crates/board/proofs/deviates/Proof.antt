@@ -1,12 +1,12 @@
--- `board::strays`: in mode 1 the inputs are no fewer than the outputs, so the proposal's place is a number. Assumes nothing.
+-- `board::deviates`: in mode 1 the inputs are no fewer than the outputs, so the proposal's place is a number. Assumes nothing.
 use native.Mathlib.Omega.{arith}
 use lib.Pow.{pow-pos}
 use borrow.Author.Tests.{eq-eqb}
 use Rattle.records.specs.Tests.{cases}
 use Rattle.records.specs.Limits.{Lines, lines-facts}
 use Rattle.board.specs.Step.{proposal, deviates}
-use Rattle.board.proofs.strays.Statement.{statement}
-use Rattle.board.proofs.strays.Tie as tie
+use Rattle.board.proofs.deviates.Statement.{statement}
+use Rattle.board.proofs.deviates.Tie as tie
 
 lines : (c : tie.Start) → Lines (c .args .mode) (c .args .inputs) (c .args .outputs)
 lines c = lines-facts (c .args .mode) (c .args .inputs) (c .args .outputs) (c .pre)
@@ -28,5 +28,5 @@ returns-2 : tie.Need-returns-2
 unfolding deviates proposal
 returns-2 c = search (cases, c .if1 .left)
 
-pub strays-spec : {M : Type 1} → statement M
-strays-spec = tie.close (tie.spec sub-pow2 pow2-requires div-proposal returns returns-2)
+pub deviates-spec : {M : Type 1} → statement M
+deviates-spec = tie.close (tie.spec sub-pow2 pow2-requires div-proposal returns returns-2)
