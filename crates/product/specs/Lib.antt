@@ -1,3 +1,7 @@
 -- Product states: one step of a tuple, and the states numbered as first met.
 pub mod Step
+pub mod Stages
+pub mod Range
+pub mod Reads
 pub mod States
+pub mod Numbered
