@@ -5,3 +5,4 @@ pub mod Range
 pub mod Reads
 pub mod States
 pub mod Numbered
+pub mod NumberedLaws
