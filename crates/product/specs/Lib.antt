@@ -1,4 +1,4 @@
--- One step of a tuple. (Founder: the numbering, phase 2, is now the crate `states` of another helper; stop after phase 1, run must-fail, and report.)
+-- One step of a tuple (Step) with its laws, and the product states: reachable tuples, numbered as first met (States, Numbered).
 pub mod Step
 pub mod Stages
 pub mod Range
