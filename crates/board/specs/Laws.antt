@@ -96,6 +96,10 @@ pub run-shows : (b : Board) (t : List ℕ) (place steps deviations : ℕ) → Sh
 unfolding runAt
 run-shows b t p s d h = record { mode = h .mode; inputs = h .inputs; outputs = h .outputs; count = h .count }
 
+pub moved-shows : (b : Board) (t : List ℕ) (input output next : ℕ) → Shows b t → Shows (moved b input output next .board) t
+unfolding moved
+moved-shows b t i o n h = run-shows b t _ _ _ h
+
 -- ---- a step
 
 -- it looks at the slice's length and at the entry's two bytes, and at nothing else of the slice
@@ -159,6 +163,7 @@ module _ (b : Board) (e : live b ≡ true) where
   unfolding unloadOn
   unload-live = simp e
 
+  -- a step is refused or taken
   pub step-case : (t : List ℕ) (i : ℕ) → StepCase b t i
   unfolding stepOn lookedUp
   step-case t i =
@@ -167,12 +172,14 @@ module _ (b : Board) (e : live b ≡ true) where
       (λ q. by-test (entryFits b t i) (λ r. taken (leb-false maxSteps (b .steps) p) r (simp (e, p, q, r))) (λ r. refused BadTable refl (simp (e, p, q, r))))
       (λ q. refused BadInput refl (simp (e, p, q))))
 
-  rewound-live : live (runAt b 0 0 0) ≡ true
+  -- a rewind leaves it live
+  pub rewound-live : live (runAt b 0 0 0) ≡ true
   rewound-live =
       let f = live-facts b e in
       run-live b 0 0 0 e (omega arith) (omega arith) (omega arith) (λ z. refl)
 
-  moved-live : (i o n : ℕ) → b .steps < maxSteps → n < b .count → live (moved b i o n .board) ≡ true
+  -- a step to a state of its table leaves it live
+  pub moved-live : (i o n : ℕ) → b .steps < maxSteps → n < b .count → live (moved b i o n .board) ≡ true
   unfolding moved
   moved-live i o n s h =
       let f = live-facts b e in
@@ -180,7 +187,7 @@ module _ (b : Board) (e : live b ≡ true) where
       run-live b n (b .steps + 1) (b .deviations + cond d 1 0) e h (omega arith) (omega (arith, flag-most d))
       (λ z. rw (never-deviates (b .mode) (b .inputs) (b .outputs) i o z) (omega (arith, f .controller z)))
 
-  -- a step leaves it live
+  -- every step, with any slice and input, leaves it live
   pub step-live : (t : List ℕ) (i : ℕ) → live (stepOn b t i .board) ≡ true
   step-live t i =
       elim (step-case t i) [
