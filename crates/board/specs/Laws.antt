@@ -3,10 +3,12 @@
 use mathlib.Core.Path.{_≡_, refl, ap, _∙_}
 use mathlib.Core.Bool.{Bool, true, false, cond, _&&_}
 use mathlib.Core.List.{List}
-use Prim.Native.Nat.{ℕ, _+_, _^_, _≤_, _<_}
+use Prim.Native.Nat.{ℕ, _+_, _-_, _*_, _^_, _≤_, _<_}
+use native.Mathlib.Nat.{add-comm, mul-comm}
 use native.Mathlib.Omega.{arith}
 use lib.Dec.{ltb, leb, eqb}
 use lib.ListN.{length, getD}
+use lib.Pow.{high}
 use borrow.Author.Tests.{leb-false, ltb-true, lt-ltb, le-ltb, lt-leb, le-leb, eq-eqb}
 use Rattle.records.specs.Tests.{and-left, and-right, and-both, by-test}
 use Rattle.records.specs.Numbers.{u16At}
@@ -14,7 +16,7 @@ use Rattle.records.specs.Limits.{maxSteps}
 use Rattle.records.specs.Layout.{tableLength, entryAt}
 use Rattle.board.specs.Board.{live, emptyBoard, runAt, rewindOn, unloadOn}
 use Rattle.board.specs.Table.{entryOk, loadable, boardOf, loadOn}
-use Rattle.board.specs.Step.{deviates, outputAt, nextAt, entryFits, moved, lookedUp, stepOn, stepNumber, stepRefusal}
+use Rattle.board.specs.Step.{proposal, deviates, outputAt, nextAt, entryFits, moved, lookedUp, stepOn, stepNumber, stepRefusal}
 use Rattle.board.specs.History.{Call, load, step, rewind, unload, handed}
 use Rattle.board.specs.Facts.{live-facts, facts-live, loadable-head, loadable-entry}
 use Rattle.board.specs.declared.Board.{Board}
@@ -102,9 +104,15 @@ moved-shows b t i o n h = run-shows b t _ _ _ h
 
 -- ---- a step
 
--- it looks at the slice's length and at the entry's two bytes, and at nothing else of the slice
-pub step-reads : (b : Board) (t u : List ℕ) (i : ℕ) → length t ≡ length u → outputAt b t i ≡ outputAt b u i → nextAt b t i ≡ nextAt b u i
-    → stepOn b t i ≡ stepOn b u i
+-- an input is the site's letter + 2^(site's lines) × proposal
+pub proposal-of : (inputs outputs site p : ℕ) → site < 2 ^ (inputs - outputs)
+    → proposal inputs outputs (site + 2 ^ (inputs - outputs) * p) ≡ p
+unfolding proposal
+proposal-of i o s p h = rw (add-comm s (2 ^ (i - o) * p), mul-comm (2 ^ (i - o)) p) (high p (i - o) h)
+
+-- a step looks at the slice's length and at the entry's two bytes, and at nothing else of the slice
+pub step-reads : (b : Board) (t u : List ℕ) (i : ℕ) → length t ≡ length u
+    → outputAt b t i ≡ outputAt b u i → nextAt b t i ≡ nextAt b u i → stepOn b t i ≡ stepOn b u i
 unfolding stepOn lookedUp entryFits entryOk outputAt nextAt
 step-reads b t u i l o n = rw (l, o, n)
 
@@ -169,7 +177,8 @@ module _ (b : Board) (e : live b ≡ true) where
   step-case t i =
       by-test (leb maxSteps (b .steps)) (λ p. refused Spent refl (simp (e, p)))
       (λ p. by-test (ltb i (2 ^ b .inputs))
-      (λ q. by-test (entryFits b t i) (λ r. taken (leb-false maxSteps (b .steps) p) r (simp (e, p, q, r))) (λ r. refused BadTable refl (simp (e, p, q, r))))
+      (λ q. by-test (entryFits b t i) (λ r. taken (leb-false maxSteps (b .steps) p) r (simp (e, p, q, r)))
+      (λ r. refused BadTable refl (simp (e, p, q, r))))
       (λ q. refused BadInput refl (simp (e, p, q))))
 
   -- a rewind leaves it live
