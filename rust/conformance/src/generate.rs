@@ -492,8 +492,11 @@ pub fn any_board(random: &mut Random, table: &[u8]) -> Board {
             1 => board.mode = random.pick(&[0, 1, 2, 255]),
             2 => board.inputs = random.pick(&[0, 1, 2, 3, 4, 5, 255]),
             3 => board.outputs = random.pick(&[0, 1, 2, 3, 4, 255]),
-            4 => board.count = random.pick(&[0, 1, count + 1, 256, 257, 65_535]),
-            5 => board.place = random.pick(&[count.wrapping_sub(1), count, count + 1, 65_535]),
+            4 => board.count = random.pick(&[0, 1, count.wrapping_add(1), 256, 257, 65_535]),
+            5 => {
+                board.place =
+                    random.pick(&[count.wrapping_sub(1), count, count.wrapping_add(1), 65_535])
+            }
             6 => board.steps = random.pick(&[0, STEPS_MOST, STEPS_MOST + 1, u32::MAX]),
             7 => board.deviations = random.pick(&[0, 1, steps, steps + 1, u32::MAX]),
             _ => {}

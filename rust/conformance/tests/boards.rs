@@ -40,7 +40,7 @@ fn single_calls_agree() {
         let input = generate::any_input(&mut random, &board);
         let before = bytes_of(&mut random, &board);
         let mut bytes = before;
-        let say = format!("case {case} of seed {}: {before:?}, {input}, {table:02x?}", seed());
+        let say = || format!("case {case} of seed {}: {before:?}, {input}, {table:02x?}", seed());
         let (call, answer, found) = match random.below(4) {
             0 => (
                 "load",
@@ -55,8 +55,8 @@ fn single_calls_agree() {
             2 => ("rewind", (subject::number(&board.rewind()), 0), (calls::rewind(&mut bytes), 0)),
             _ => ("unload", (subject::number(&board.unload()), 0), (calls::unload(&mut bytes), 0)),
         };
-        assert_eq!(found, answer, "{call}: {say}");
-        assert_eq!(bytes, expected(before, answer.0, &board), "{call}: {say}");
+        assert_eq!(found, answer, "{call}: {}", say());
+        assert_eq!(bytes, expected(before, answer.0, &board), "{call}: {}", say());
         *seen.entry((call, answer.0)).or_default() += 1;
     }
     println!("answers seen: {seen:?}");
@@ -154,17 +154,17 @@ fn runs_follow_the_book() {
             Book { sheet: &sheet, product: &product, kept: &kept, values: &values, run: None };
         let mut board = empty_board(&mut random, table.as_bytes());
         for call in 0..300 {
-            let say = format!("call {call} of case {case} of seed {}: {bytes:02x?}", seed());
+            let say = || format!("call {call} of case {case} of seed {}: {bytes:02x?}", seed());
             match random.below(40) {
-                0 => assert_eq!(calls::rewind(&mut board), book.rewind(), "{say}"),
-                1 => assert_eq!(calls::unload(&mut board), book.unload(), "{say}"),
+                0 => assert_eq!(calls::rewind(&mut board), book.rewind(), "{}", say()),
+                1 => assert_eq!(calls::unload(&mut board), book.unload(), "{}", say()),
                 2 | 3 if book.run.is_some() => {
                     // Refused 21 whatever the slice.
                     let slice = generate::any_table(&mut random);
-                    assert_eq!(calls::load(&mut board, &slice), book.load(), "{say}");
+                    assert_eq!(calls::load(&mut board, &slice), book.load(), "{}", say());
                 }
                 2..=4 => {
-                    assert_eq!(calls::load(&mut board, table.as_bytes()), book.load(), "{say}")
+                    assert_eq!(calls::load(&mut board, table.as_bytes()), book.load(), "{}", say())
                 }
                 _ => {
                     let input = match random.below(30) {
@@ -172,15 +172,20 @@ fn runs_follow_the_book() {
                         _ => random.byte_below(1 << sheet.inputs),
                     };
                     let found = calls::step(&mut board, table.as_bytes(), input);
-                    assert_eq!(found, book.step(input), "{say}");
+                    assert_eq!(found, book.step(input), "{}", say());
                 }
             }
             let shown = subject::from_bytes(board);
-            assert_eq!(shown.is_live(), book.run.is_some(), "{say}");
+            assert_eq!(shown.is_live(), book.run.is_some(), "{}", say());
             if let Some(run) = &book.run {
                 let lines = (sheet.mode as u8, sheet.inputs, sheet.outputs);
-                assert_eq!((shown.mode, shown.inputs, shown.outputs), lines, "{say}");
-                assert_eq!((shown.steps, shown.deviations), (run.inputs, run.deviations), "{say}");
+                assert_eq!((shown.mode, shown.inputs, shown.outputs), lines, "{}", say());
+                assert_eq!(
+                    (shown.steps, shown.deviations),
+                    (run.inputs, run.deviations),
+                    "{}",
+                    say()
+                );
             }
         }
     }
