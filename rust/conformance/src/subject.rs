@@ -155,7 +155,9 @@ impl Subject for Library {
         }
         let mut result = vec![0; reference::GUARD_BYTES_MOST];
         match self.make_guard(sheet, &mut result) {
-            (0, length) => reference::list_table(&result[..length as usize])
+            (0, length) => result
+                .get(..length as usize)
+                .and_then(reference::list_table)
                 .unwrap_or_else(|| "not a loadable table\n".to_string()),
             (number, _) => format!("refused {number}\n"),
         }

@@ -8,6 +8,9 @@ use guard::{calls, Work};
 
 const WORK_SHORT: u32 = 10;
 
+/// Bytes on either side of the result memory that is lent.
+const MARGIN: usize = 32;
+
 /// The work slices that a maker is lent.
 const SUPERVISOR_SLICES: usize = 3;
 const GUARD_SLICES: usize = 10;
@@ -112,8 +115,10 @@ fn compare(kind: Kind, sheet: &[u8], random: &mut Random) -> u32 {
         3 => 0,
         _ => length + random.below(64),
     };
-    let mut result = random.bytes(room);
-    let mut expected = result.clone();
+    // The result memory lies inside a longer one, whose other bytes must stay as they are.
+    let mut memory = random.bytes(room + 2 * MARGIN);
+    let mut expected = memory.clone();
+    let lent = MARGIN..MARGIN + room;
     let mut work = any_work(random, 40);
     let short = random.once_in(8);
     if short {
@@ -123,10 +128,13 @@ fn compare(kind: Kind, sheet: &[u8], random: &mut Random) -> u32 {
     let before = work.clone();
     let answer = match short {
         true => (WORK_SHORT, [0; calls::FIGURES]),
-        false => kind.by_reference(sheet, &mut expected),
+        false => kind.by_reference(sheet, &mut expected[lent.clone()]),
     };
-    assert_eq!(kind.by_library(sheet, &mut result, &mut work), answer, "{kind:?}");
-    assert!(result == expected, "{kind:?}: the result memory differs");
+    let read = sheet.to_vec();
+    let found = kind.by_library(&read, &mut memory[lent], &mut work);
+    assert_eq!(found, answer, "{kind:?}");
+    assert!(memory == expected, "{kind:?}: the result memory differs");
+    assert!(read == sheet, "{kind:?}: the sheet was written");
     kind.check_work(&before, &work);
     answer.0
 }
