@@ -412,20 +412,25 @@ pub fn any_sheet(random: &mut Random) -> Vec<u8> {
 /// A loadable guard table with any entries.
 pub fn table(random: &mut Random) -> Vec<u8> {
     let shape = random.pick(&Shape::all());
-    let inputs = shape.inputs();
     let count = match random.below(6) {
         0 => 1,
         1 => STATES_MOST,
         2 => STATES_MOST - 1,
         _ => 1 + random.below(12),
     };
-    let [low, high] = (count as u16).to_le_bytes();
     let horizon = random.byte_below(shape.horizon_most() + 1);
-    let mut bytes = record(16, &[shape.mode, inputs, shape.outputs, horizon, low, high]);
+    table_of(random, [shape.mode, shape.inputs(), shape.outputs, horizon], count)
+}
+
+/// A table with any entries by its head: mode, inputs, outputs, H, count, in bounds or not.
+fn table_of(random: &mut Random, fields: [u8; 4], count: usize) -> Vec<u8> {
+    let [mode, inputs, outputs, horizon] = fields;
+    let [low, high] = (count as u16).to_le_bytes();
+    let mut bytes = record(16, &[mode, inputs, outputs, horizon, low, high]);
     for _ in 0..count {
         let mut row = Vec::with_capacity(2 << inputs);
         for _ in 0..1 << inputs {
-            row.push(random.byte_below(1 << shape.outputs));
+            row.push(random.byte_below(1 << outputs));
             row.push(random.below(count) as u8);
         }
         bytes.extend(record(17, &row));
@@ -433,11 +438,24 @@ pub fn table(random: &mut Random) -> Vec<u8> {
     bytes
 }
 
+/// A table that is whole but for its head, about the bounds.
+fn table_about_bounds(random: &mut Random) -> Vec<u8> {
+    let fields = [
+        random.pick(&[0, 0, 1, 1, 2]),
+        random.byte_below(6),
+        random.byte_below(5),
+        random.pick(&[0, 0, 0, 6, 7, 8, 9, 12, 13, 24, 25]),
+    ];
+    let count = random.pick(&[0, 1, 2, 3, 3, 256, 257, 300]);
+    table_of(random, fields, count)
+}
+
 /// Any bytes for a table: a loadable one, or one of them damaged.
 pub fn any_table(random: &mut Random) -> Vec<u8> {
     let mut bytes = table(random);
-    match random.below(5) {
+    match random.below(6) {
         0 | 1 => {}
+        5 => bytes = table_about_bounds(random),
         2 => damage(random, &mut bytes),
         3 => {
             // The head about its bounds.
