@@ -2,6 +2,9 @@
 
 use crate::{Kept, Product, Sheet};
 
+/// The most guard inputs, of four lines.
+const INPUTS_MOST: usize = 16;
+
 /// The best that each kept state can still earn in H steps, added over all input words.
 #[derive(Clone, Debug)]
 pub struct Values {
@@ -20,15 +23,17 @@ impl Values {
         for p in 1..=u32::from(sheet.horizon) {
             std::mem::swap(&mut best, &mut before);
             for (state, value) in best.iter_mut().enumerate().filter(|(s, _)| kept.is_kept(*s)) {
-                *value = (0..product.input_count())
-                    .map(|input| {
-                        (0..product.output_count())
-                            .filter_map(|output| kept.allowed(product, state, input, output))
-                            .map(|(next, reward)| (reward << (inputs * (p - 1))) + before[next])
-                            .max()
-                            .expect("a kept state has an allowed output for each input")
-                    })
-                    .sum();
+                // The largest by input; a kept state has an allowed output for each.
+                let mut largest = [0; INPUTS_MOST];
+                for edges in product.edges_of(state).chunks_exact(product.input_count()) {
+                    for (most, edge) in largest.iter_mut().zip(edges) {
+                        if let Some(next) = edge.next().filter(|&next| kept.is_kept(next)) {
+                            let score = (edge.reward() << (inputs * (p - 1))) + before[next];
+                            *most = score.max(*most);
+                        }
+                    }
+                }
+                *value = largest.iter().sum();
             }
         }
         let shift = inputs * u32::from(sheet.horizon);
