@@ -7,3 +7,4 @@ pub mod Rewards
 pub mod States
 pub mod Numbered
 pub mod NumberedLaws
+pub mod Tuples
