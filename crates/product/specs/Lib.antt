@@ -1,4 +1,4 @@
--- One step of a tuple. (Founder: the numbering, phase 2, is now the crate `states` of another helper; stop after phase 1, run must-fail, and report.)
+-- Product states: one step of a tuple, and the states numbered as first met.
 pub mod Step
 pub mod Stages
 pub mod Range
@@ -6,4 +6,4 @@ pub mod Reads
 pub mod Rewards
 pub mod States
 pub mod Numbered
-pub mod NumberedLaws
+pub mod Exploring

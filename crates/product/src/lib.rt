@@ -1,2 +1,3 @@
-// One step of a tuple. (Founder: the numbering, phase 2, is now the crate `states` of another helper; stop after phase 1, run must-fail, and report.)
+// Product states: one step of a tuple, and the states numbered as first met.
+pub mod states;
 pub mod step;
