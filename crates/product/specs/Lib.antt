@@ -6,4 +6,5 @@ pub mod Reads
 pub mod Rewards
 pub mod States
 pub mod Numbered
+pub mod NumberedLaws
 pub mod Exploring

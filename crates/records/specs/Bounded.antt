@@ -149,6 +149,12 @@ unfolding count
 count-cong zero p q e = refl
 count-cong (suc n) p q e = rw (count-cong n p q (λ i h. e i (omega arith)), e n (omega arith))
 
+-- a test that always passes
+pub count-all : (n : ℕ) (p : ℕ → Bool) → ((i : ℕ) → i < n → p i ≡ true) → count n p ≡ n
+unfolding count
+count-all zero p e = refl
+count-all (suc n) p e = rw (count-all n p (λ i h. e i (omega arith)), e n (omega arith)) (add-one n)
+
 -- a test that passes less often counts no more
 pub count-mono : (n : ℕ) (p q : ℕ → Bool) → ((i : ℕ) → i < n → p i ≡ true → q i ≡ true) → count n p ≤ count n q
 unfolding count
@@ -195,6 +201,12 @@ pub sum-le : (n : ℕ) (f g : ℕ → ℕ) → ((i : ℕ) → i < n → f i ≤ 
 unfolding sum
 sum-le zero f g e = omega arith
 sum-le (suc n) f g e = omega (arith, sum-le n f g (λ i h. e i (omega arith)), e n (omega arith))
+
+-- nothing to add
+pub sum-zero : (n : ℕ) (f : ℕ → ℕ) → ((i : ℕ) → i < n → f i ≡ 0) → sum n f ≡ 0
+unfolding sum
+sum-zero zero f e = refl
+sum-zero (suc n) f e = rw (sum-zero n f (λ i h. e i (omega arith)), e n (omega arith))
 
 -- each of n terms is at most c
 pub sum-most : (n c : ℕ) (f : ℕ → ℕ) → ((i : ℕ) → i < n → f i ≤ c) → sum n f ≤ n * c

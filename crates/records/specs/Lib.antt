@@ -1,8 +1,10 @@
 -- What every format and table above shares.
 pub mod Tests
 pub mod Bounded
+pub mod Bits
 pub mod Lists
 pub mod Numbers
 pub mod Cursor
 pub mod Limits
 pub mod Layout
+pub mod GuardTable

@@ -1,10 +1,11 @@
 -- Lists given by what stands at each index, lists put together from blocks, and stores into a list.
 -- Assumes nothing.
-use mathlib.Core.Path.{_≡_, refl, ap, ap₂, sym, _∙_}
+use mathlib.Core.Path.{_≡_, refl, ap, ap₂, sym, _∙_, subst}
 use mathlib.Core.List.{List, [], _∷_, _++_, append-nil, append-assoc}
 use Prim.Native.Nat.{ℕ, zero, suc, _+_, _-_, _*_, _≤_, _<_, suc-le-suc}
-use native.Mathlib.Nat.{not-suc-le-zero, le-of-suc-le-suc, add-suc, add-zero, suc-mul, zero-add}
+use native.Mathlib.Nat.{not-suc-le-zero, le-of-suc-le-suc, add-suc, add-zero, add-assoc, suc-add, suc-mul, zero-add}
 use native.Mathlib.Numerals.{add-one}
+use native.Mathlib.Decide.{decLt}
 use native.Mathlib.Omega.{arith}
 use lib.ListN.{length, getD, set, take, drop, length-append, List·getD-append}
 use lib.Seq.{ext-getD, sets, sets-eq, length-sets, getD-append-add}
@@ -96,6 +97,13 @@ getD-put-front (x ∷ d) (suc n) f zero e l m = refl
 getD-put-front (x ∷ d) (suc n) f (suc k) e l m =
     getD-put-front d n (λ j. f (suc j)) k e (le-of-suc-le-suc l) (le-of-suc-le-suc m)
 
+-- the elements put back change nothing
+pub put-self : (d : List ℕ) (n : ℕ) → put d n (λ k. getD d k 0) ≡ d
+unfolding put
+put-self [] n = refl
+put-self (x ∷ d) zero = refl
+put-self (x ∷ d) (suc n) = ap (λ (t : List ℕ). x ∷ t) (put-self d n)
+
 -- only what f says below n counts
 pub put-ext : (d : List ℕ) (n : ℕ) (f g : ℕ → ℕ) → ((k : ℕ) → k < n → f k ≡ g k) → put d n f ≡ put d n g
 unfolding put
@@ -144,6 +152,21 @@ module _ {ℓ} {A : Type ℓ} (c : ℕ) where
       (λ u. List·getD-append (cat n f) (f n) d (k * c + j) (rw size (lib.Arith.digits-lt u l)) ∙ getD-cat n f (λ i v. e i (omega arith)) k j d u l)
       (λ u. rw (u, ← size) (getD-append-add (cat n f) (f n) j d))
 
+-- what holds of every element of every block
+pub cat-each {ℓ} : {A : Type ℓ} (P : A → Type 0) (d : A) (n : ℕ) (f : ℕ → List A)
+    → ((q i : ℕ) → q < n → i < length (f q) → P (getD (f q) i d)) → (k : ℕ) → k < length (cat n f) → P (getD (cat n f) k d)
+unfolding cat
+cat-each P d zero f h k l = absurd (omega arith)
+cat-each P d (suc n) f h k l =
+    elim (decLt k (length (cat n f))) [
+      | yes u ↦ rw (List·getD-append (cat n f) (f n) d k u) (cat-each P d n f (λ q i v. h q i (omega arith)) k u)
+      | no u ↦
+          let at : length (cat n f) + (k - length (cat n f)) ≡ k = omega arith in
+          subst (λ x. P (getD (cat n f ++ f n) x d)) at
+          (rw (getD-append-add (cat n f) (f n) (k - length (cat n f)) d)
+          (h n (k - length (cat n f)) (omega arith) (omega (arith, length-append (cat n f) (f n)))))
+    ]
+
 -- ---- stores one after the other: `sets d at xs` is d with xs stored from index at on
 
 pub sets-append {ℓ} : {A : Type ℓ} (d : List A) (at : ℕ) (xs ys : List A) → sets (sets d at xs) (at + length xs) ys ≡ sets d at (xs ++ ys)
@@ -156,3 +179,46 @@ sets-one d at x = refl
 -- from index 0: the new elements, then the old rest
 pub sets-front {ℓ} : {A : Type ℓ} (d xs : List A) → length xs ≤ length d → sets d 0 xs ≡ xs ++ drop (length xs) d
 sets-front d xs h = sets-eq xs d 0 (omega arith) ∙ rw zero-add
+
+-- ---- a stretch of a list
+
+tab-add {ℓ} : {A : Type ℓ} (n m : ℕ) (f : ℕ → A) → tab (n + m) f ≡ tab n f ++ tab m (λ k. f (n + k))
+unfolding tab
+tab-add zero m f = rw zero-add (tab-ext m f (λ k. f (0 + k)) (λ k h. rw zero-add))
+tab-add (suc n) m f =
+    rw suc-add
+    (rw (tab-add n m (λ k. f (suc k)))
+    (ap (λ (l : List _). f 0 ∷ (tab n (λ k. f (suc k)) ++ l)) (tab-ext m (λ k. f (suc (n + k))) (λ k. f (suc n + k)) (λ k h. rw suc-add))))
+
+-- n elements from an index on, 0 where there is none
+unfoldable pub part : List ℕ → ℕ → ℕ → List ℕ
+part s at n = tab n (λ k. getD s (at + k) 0)
+
+-- a stretch in two
+pub part-add : (s : List ℕ) (at n m : ℕ) → part s at (n + m) ≡ part s at n ++ part s (at + n) m
+unfolding part
+part-add s at n m =
+    tab-add n m (λ k. getD s (at + k) 0)
+    ∙ ap (λ (l : List ℕ). tab n (λ k. getD s (at + k) 0) ++ l)
+    (tab-ext m (λ k. getD s (at + (n + k)) 0) (λ k. getD s (at + n + k) 0) (λ k h. rw add-assoc))
+
+-- the whole list
+pub part-whole : (s : List ℕ) → part s 0 (length s) ≡ s
+unfolding part
+part-whole s = sym (tab-eq 0 (length s) (λ k. getD s (0 + k) 0) s refl (λ k h. rw zero-add))
+
+-- a stretch in blocks of one length
+pub part-cat : (s : List ℕ) (at n w : ℕ) → part s at (n * w) ≡ cat n (λ q. part s (at + q * w) w)
+unfolding cat part tab
+part-cat s at zero w = rw (native.Mathlib.Nat.zero-mul)
+part-cat s at (suc n) w = rw (suc-mul, part-add s at (n * w) w, part-cat s at n w)
+
+-- block j, and what stands before and after it
+pub cat-at {ℓ} : {A : Type ℓ} (n : ℕ) (f : ℕ → List A) (j : ℕ) → j < n → (rest : List A) × (cat n f ≡ cat j f ++ (f j ++ rest))
+unfolding cat
+cat-at zero f j h = absurd (omega arith)
+cat-at {A} (suc n) f j h =
+    cases-suc j n h
+    (λ l. let r : (rest : List A) × (cat n f ≡ cat j f ++ (f j ++ rest)) = cat-at n f j l in
+    (r .0 ++ f n, rw (r .1) (simp append-assoc)))
+    (λ e. ([], rw (e, append-nil)))

@@ -7,3 +7,14 @@ pub mod Monitor
 pub mod Reader
 pub mod Refusals
 pub mod Promises
+pub mod Agree
+pub mod Turns
+pub mod Judged
+pub mod Placed
+pub mod Sound
+pub mod Once
+pub mod Facts
+pub mod Written
+pub mod Complete
+pub mod Laws
+pub mod Examples

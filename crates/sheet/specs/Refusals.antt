@@ -50,6 +50,6 @@ sheetNumber s =
       | found.Truncated ↦ 1
       | found.Record kind start size next ↦
           cond (eqb kind 1)
-              (firstNumber (headNumber s start size) (recordsNumber (suc (length s)) s (headSheet s start) (next .at)))
-              2
+          (firstNumber (headNumber s start size) (recordsNumber (suc (length s)) s (headSheet s start) (next .at)))
+          2
     ]

@@ -1,2 +1,5 @@
 // The sheet: its records read, judged and laid out.
+pub mod head;
 pub mod layout;
+pub mod monitor;
+pub mod reader;

@@ -1,0 +1,4 @@
+-- The guard of a sheet: demand 3 (Meaning), the model of its table (Table), what its maker promises (Promises).
+pub mod Meaning
+pub mod Table
+pub mod Promises

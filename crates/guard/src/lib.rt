@@ -1,0 +1,1 @@
+// The guard of a sheet, as a table.

@@ -1,0 +1,205 @@
+// The rounds that drop lost states, over a table of steps, and the masks of allowed outputs.
+// `inputs` and `outputs` are the numbers of inputs and of outputs; `dropped` holds for each state the round, counted
+// from 1, that dropped it, and 0 while it is in.
+ghost use mathlib.Core.Path.{_≡_};
+ghost use Prim.Native.Nat.{ℕ, _+_, _*_, _<_, _≤_};
+ghost use lib.ListN.{length, getD};
+ghost use Rattle.records.specs.Limits.{maxStates};
+ghost use Rattle.records.specs.Lists.{put};
+ghost use Rattle.rounds.specs.Rounds.{Steps, isBroken, cellAt, isIn, leadsIn, stays, maskOf, Settled};
+ghost use Rattle.rounds.specs.Cells.{InRow, Entered, Leads};
+ghost use Rattle.rounds.specs.InPlace.{atStart, drops, Rounded};
+
+// A cell of the table of steps.
+pub struct Cell {
+    pub next: u16,
+}
+
+impl Cell {
+    // What a cell holds where the step is broken.
+    pub const BROKEN: u16 = 65535;
+}
+
+// Whether a cell says that its step is broken.
+pub fn cell_is_broken(cell: u16) -> bool
+    ensures { λ r. ⌜ r ≡ isBroken cell ⌝ }
+{
+    cell == Cell::BROKEN
+}
+
+// Where the cell of a state, an input and an output stands.
+pub fn cell_at(inputs: usize, outputs: usize, k: usize, i: usize, o: usize) -> usize
+    requires { ⌜ InRow inputs outputs k i o ⌝ }
+    ensures { λ r. ⌜ r ≡ cellAt inputs outputs k i o ⌝ }
+{
+    k * (inputs * outputs) + (i + inputs * o)
+}
+
+// Whether no round has dropped a state.
+pub fn is_kept(dropped: &[u16], k: usize) -> bool
+    requires { ⌜ k < length (now dropped) ⌝ }
+    ensures { λ r. ⌜ r ≡ isIn (now (dropped .entry)) k ⌝ }
+{
+    dropped[k] == 0
+}
+
+// Whether a cell is an unbroken step to a state that was in at the start of a round.
+pub fn cell_leads(cells: &[u16], dropped: &[u16], round: u16, at: usize) -> bool
+    requires { ⌜ Leads (now cells) (now dropped) at ⌝ }
+    ensures { λ r. ⌜ r ≡ leadsIn (now (cells .entry)) (atStart round (now (dropped .entry))) at ⌝ }
+{
+    let cell = cells[at];
+    if cell_is_broken(cell) {
+        return false;
+    }
+    let dropped_by = dropped[cell as usize];
+    if dropped_by == round {
+        return true;
+    }
+    dropped_by == 0
+}
+
+// Whether a cell is an unbroken step to a state that is kept.
+pub fn leads_to_kept(cells: &[u16], dropped: &[u16], at: usize) -> bool
+    requires { ⌜ Leads (now cells) (now dropped) at ⌝ }
+    ensures { λ r. ⌜ r ≡ leadsIn (now (cells .entry)) (now (dropped .entry)) at ⌝ }
+{
+    cell_leads(cells, dropped, 0, at)
+}
+
+// Whether every input of a state has an unbroken step to a state that was in at the start of a round.
+pub fn state_stays(
+    cells: &[u16],
+    dropped: &[u16],
+    n: usize,
+    inputs: usize,
+    outputs: usize,
+    k: usize,
+    round: u16,
+) -> bool
+    requires { ⌜ Steps (now cells) n inputs outputs ⌝ }
+    requires { ⌜ Entered (now dropped) n k ⌝ }
+    ensures { λ r. ⌜ r ≡ stays (now (cells .entry)) (atStart round (now (dropped .entry))) inputs outputs k ⌝ }
+{
+    let mut i: usize = 0;
+    'inputs: while i < inputs {
+        let mut o: usize = 0;
+        'search: loop {
+            if outputs <= o {
+                break 'inputs;
+            }
+            if cell_leads(cells, dropped, round, cell_at(inputs, outputs, k, i, o)) {
+                break 'search;
+            }
+            o += 1;
+        }
+        i += 1;
+    }
+    inputs <= i
+}
+
+// Whether a round drops a state.
+pub fn round_drops(
+    cells: &[u16],
+    dropped: &[u16],
+    n: usize,
+    inputs: usize,
+    outputs: usize,
+    k: usize,
+    round: u16,
+) -> bool
+    requires { ⌜ Steps (now cells) n inputs outputs ⌝ }
+    requires { ⌜ Entered (now dropped) n k ⌝ }
+    ensures { λ r. ⌜ r ≡ drops (now (cells .entry)) inputs outputs round (now (dropped .entry)) k ⌝ }
+{
+    if !is_kept(dropped, k) {
+        return false;
+    }
+    !state_stays(cells, dropped, n, inputs, outputs, k, round)
+}
+
+// One round in place; how many states it dropped.
+pub fn one_round(
+    cells: &[u16],
+    dropped: &mut [u16],
+    n: usize,
+    inputs: usize,
+    outputs: usize,
+    round: u16,
+) -> usize
+    requires { ⌜ Steps (now cells) n inputs outputs ⌝ }
+    requires { ⌜ n ≤ length (now dropped) ⌝ }
+    requires { ⌜ ((k : ℕ) → k < n → getD (now dropped) k 0 < round) ⌝ }
+    ensures { λ r. ⌜ Rounded (now (cells .entry)) n inputs outputs round (now (dropped .entry)) (now (dropped .exit)) r ⌝ }
+{
+    let mut lost: usize = 0;
+    let mut k: usize = 0;
+    while k < n {
+        if round_drops(cells, dropped, n, inputs, outputs, k, round) {
+            dropped[k] = round;
+            lost += 1;
+        }
+        k += 1;
+    }
+    lost
+}
+
+// All of the first `n` states are in.
+fn all_in(dropped: &mut [u16], n: usize)
+    requires { ⌜ n ≤ length (now dropped) ⌝ }
+    ensures { λ _. ⌜ now (dropped .exit) ≡ put (now (dropped .entry)) n (λ k. 0) ⌝ }
+{
+    let mut k: usize = 0;
+    while k < n {
+        dropped[k] = 0;
+        k += 1;
+    }
+}
+
+// The rounds, to the first that drops nothing; how many states are kept.
+pub fn settle(cells: &[u16], dropped: &mut [u16], n: usize, inputs: usize, outputs: usize) -> usize
+    requires { ⌜ Steps (now cells) n inputs outputs ⌝ }
+    requires { ⌜ (n ≤ length (now dropped)) × (n ≤ maxStates) ⌝ }
+    ensures { λ r. ⌜ Settled (now (cells .entry)) n inputs outputs (now (dropped .entry)) (now (dropped .exit)) r ⌝ }
+{
+    all_in(dropped, n);
+    let mut kept = n;
+    let mut made: u16 = 0;
+    loop {
+        let lost = one_round(cells, dropped, n, inputs, outputs, made + 1);
+        if lost == 0 {
+            break kept;
+        }
+        kept -= lost;
+        made += 1;
+    }
+}
+
+// The outputs that are allowed in a state at an input, bit o for output o.
+pub fn mask_of(
+    cells: &[u16],
+    dropped: &[u16],
+    n: usize,
+    inputs: usize,
+    outputs: usize,
+    k: usize,
+    i: usize,
+) -> u8
+    requires { ⌜ Steps (now cells) n inputs outputs ⌝ }
+    requires { ⌜ Entered (now dropped) n k ⌝ }
+    requires { ⌜ (i < inputs) × (outputs ≤ 8) ⌝ }
+    ensures { λ r. ⌜ r ≡ maskOf (now (cells .entry)) (now (dropped .entry)) inputs outputs k i ⌝ }
+{
+    if !is_kept(dropped, k) {
+        return 0;
+    }
+    let mut mask: u8 = 0;
+    let mut o: usize = 0;
+    while o < outputs {
+        if leads_to_kept(cells, dropped, cell_at(inputs, outputs, k, i, o)) {
+            mask += 1u8 << o;
+        }
+        o += 1;
+    }
+    mask
+}

@@ -1,0 +1,3 @@
+-- Laws that several functions use.
+pub mod Facts
+pub mod Walk

@@ -1,0 +1,86 @@
+-- `sheet::head::head_sheet`: the fields where they stand. Assumes nothing.
+use borrow.Author.Needs.{needs}
+use Rattle.sheet.specs.Head.{headSheet}
+use Rattle.sheet.proofs.head.head_sheet.Statement.{statement}
+use Rattle.sheet.proofs.head.head_sheet.Tie as tie
+
+abbrev numbered : tie.After-literal-at3 → tie.After-inputs-of
+numbered c = c .before .before .before .before .before
+
+add-outputs : tie.Need-add-outputs
+add-outputs c = search needs
+
+shared-slice-read-outputs : tie.Need-shared-slice-read-outputs
+shared-slice-read-outputs c = search needs
+
+none-requires : tie.Need-none-requires
+none-requires c κs = search needs
+
+shared-slice-read-t7 : tie.Need-shared-slice-read-t7
+shared-slice-read-t7 c = search needs
+
+add-t5 : tie.Need-add-t5
+add-t5 c = search needs
+
+shared-slice-read-t10 : tie.Need-shared-slice-read-t10
+shared-slice-read-t10 c = search needs
+
+shared-slice-read-inputs-of : tie.Need-shared-slice-read-inputs-of
+shared-slice-read-inputs-of c = search needs
+
+add-inputs-of : tie.Need-add-inputs-of
+add-inputs-of c = search needs
+
+shared-slice-read-inputs-of-2 : tie.Need-shared-slice-read-inputs-of-2
+shared-slice-read-inputs-of-2 c = search needs
+
+inputs-of-requires : tie.Need-inputs-of-requires
+inputs-of-requires c κs = search needs
+
+add-t17 : tie.Need-add-t17
+add-t17 c = search needs
+
+shared-slice-read-t19 : tie.Need-shared-slice-read-t19
+shared-slice-read-t19 c = search needs
+
+add-t20 : tie.Need-add-t20
+add-t20 c = search needs
+
+shared-slice-read-t22 : tie.Need-shared-slice-read-t22
+shared-slice-read-t22 c = search needs
+
+literal-at-requires : tie.Need-literal-at-requires
+literal-at-requires c κs = search needs
+
+literal-at-requires-2 : tie.Need-literal-at-requires-2
+literal-at-requires-2 c κs = search needs
+
+literal-at-requires-3 : tie.Need-literal-at-requires-3
+literal-at-requires-3 c κs = search needs
+
+returns : tie.Need-returns
+unfolding headSheet
+returns c = simp (c .literal-at3 .ensures, c .before .literal-at2 .ensures, c .before .before .literal-at .ensures, numbered c .inputs-of .ensures, numbered c .before .before .before .before .before .none .ensures)
+
+pub head-sheet-spec : {M : Type 1} → statement M
+head-sheet-spec =
+    tie.close
+    (tie.spec
+    add-outputs
+    shared-slice-read-outputs
+    none-requires
+    shared-slice-read-t7
+    add-t5
+    shared-slice-read-t10
+    shared-slice-read-inputs-of
+    add-inputs-of
+    shared-slice-read-inputs-of-2
+    inputs-of-requires
+    add-t17
+    shared-slice-read-t19
+    add-t20
+    shared-slice-read-t22
+    literal-at-requires
+    literal-at-requires-2
+    literal-at-requires-3
+    returns)

@@ -1,0 +1,38 @@
+-- `sheet::head::literal_ok`: the tests in the definition's order. Assumes nothing.
+use borrow.Author.Needs.{needs}
+use Rattle.records.specs.Tests.{cases}
+use Rattle.sheet.specs.Head.{literalOk}
+use Rattle.sheet.proofs.head.literal_ok.Statement.{statement}
+use Rattle.sheet.proofs.head.literal_ok.Tie as tie
+
+add-literal : tie.Need-add-literal
+add-literal c = search needs
+
+shared-slice-read-literal : tie.Need-shared-slice-read-literal
+shared-slice-read-literal c = search needs
+
+returns : tie.Need-returns
+unfolding literalOk
+returns c = search cases
+
+returns-2 : tie.Need-returns-2
+unfolding literalOk
+returns-2 c = search cases
+
+fresh-line-requires : tie.Need-fresh-line-requires
+fresh-line-requires c κs = search needs
+
+returns-3 : tie.Need-returns-3
+unfolding literalOk
+returns-3 c = search (cases, c .fresh-line .ensures)
+
+pub literal-ok-spec : {M : Type 1} → statement M
+literal-ok-spec =
+    tie.close
+    (tie.spec
+    add-literal
+    shared-slice-read-literal
+    returns
+    returns-2
+    fresh-line-requires
+    returns-3)

@@ -1,0 +1,116 @@
+-- `sheet::head::read_head`: the tests in the definition's order; a head in order lies inside the bytes.
+-- Assumes nothing.
+use mathlib.Core.Path.{_≡_, sym}
+use mathlib.Core.Bool.{true}
+use Prim.Native.Nat.{_+_}
+use native.Mathlib.Omega.{arith}
+use borrow.Author.Needs.{needs}
+use denote.Ref.{now}
+use lib.ListN.{getD}
+use Rattle.records.specs.Tests.{said-no, said-yes}
+use Rattle.sheet.specs.Decoded.{inputsOf}
+use Rattle.sheet.specs.Head.{headOk, readHead}
+use Rattle.sheet.proofs.Facts.{Numbers, head-facts}
+use Rattle.sheet.proofs.head.read_head.Statement.{statement}
+use Rattle.sheet.proofs.head.read_head.Tie as tie
+
+abbrev entry : tie.Else1 → tie.Start
+entry c = c .before .before .before
+
+-- what the test tells where it was passed
+ok : (c : tie.Else1) → headOk (now (entry c .args .s)) (entry c .args .start) (entry c .args .size) ≡ true
+ok c = said-yes (c .before .head-ok .ensures) (c .if1 .left)
+
+known : (c : tie.Else1)
+    → Numbers (getD (now (entry c .args .s)) (entry c .args .start + 1) 0)
+    (getD (now (entry c .args .s)) (entry c .args .start + 2) 0) (entry c .args .size)
+known c = head-facts _ _ _ (ok c)
+
+abbrev passed : tie.After-inputs-of → tie.Else1
+passed c = c .before .before .before .before
+
+-- the horizon is held to the guard's inputs
+inputs : (c : tie.After-inputs-of)
+    → inputsOf (getD (now (entry (passed c) .args .s)) (entry (passed c) .args .start) 0)
+    (getD (now (entry (passed c) .args .s)) (entry (passed c) .args .start + 1) 0)
+    (getD (now (entry (passed c) .args .s)) (entry (passed c) .args .start + 2) 0)
+    ≡ c .inputs-of .result
+inputs c = sym (c .inputs-of .ensures)
+
+head-ok-requires : tie.Need-head-ok-requires
+head-ok-requires c κs = search needs
+
+refused-requires : tie.Need-refused-requires
+refused-requires c κs = search needs
+
+returns : tie.Need-returns
+unfolding readHead
+returns c = simp (said-no (c .before .before .head-ok .ensures) (c .before .if1 .taken)) (c .refused .ensures)
+
+shared-slice-read-inputs-of : tie.Need-shared-slice-read-inputs-of
+shared-slice-read-inputs-of c = let h = known (c .before) in omega arith
+
+add-inputs-of : tie.Need-add-inputs-of
+add-inputs-of c = search needs
+
+shared-slice-read-inputs-of-2 : tie.Need-shared-slice-read-inputs-of-2
+shared-slice-read-inputs-of-2 c = let h = known (c .before .before) in omega arith
+
+add-inputs-of-2 : tie.Need-add-inputs-of-2
+add-inputs-of-2 c = search needs
+
+shared-slice-read-inputs-of-3 : tie.Need-shared-slice-read-inputs-of-3
+shared-slice-read-inputs-of-3 c = let h = known (c .before .before .before) in omega arith
+
+inputs-of-requires : tie.Need-inputs-of-requires
+inputs-of-requires c κs = let h = known (c .before .before .before) in omega arith
+
+add-horizon-ok : tie.Need-add-horizon-ok
+add-horizon-ok c = search needs
+
+shared-slice-read-horizon-ok : tie.Need-shared-slice-read-horizon-ok
+shared-slice-read-horizon-ok c = let h = known (passed (c .before)) in omega arith
+
+horizon-ok-requires : tie.Need-horizon-ok-requires
+horizon-ok-requires c κs = search needs
+
+refused-requires-2 : tie.Need-refused-requires-2
+refused-requires-2 c κs = search needs
+
+returns-2 : tie.Need-returns-2
+unfolding readHead
+returns-2 c = let t = c .before .before in
+    simp (ok (passed (t .before .before)), inputs (t .before .before), said-no (t .horizon-ok .ensures) (c .before .if2 .taken)) (c .refused2 .ensures)
+
+head-sheet-requires : tie.Need-head-sheet-requires
+head-sheet-requires c κs = let h = known (passed (c .before .before .before)) in omega arith
+
+accepted-requires : tie.Need-accepted-requires
+accepted-requires c κs = search needs
+
+returns-3 : tie.Need-returns-3
+unfolding readHead
+returns-3 c = let t = c .before .before .before in
+    simp (ok (passed (t .before .before)), inputs (t .before .before), said-yes (t .horizon-ok .ensures) (c .before .before .if2 .left), ← c .before .head-sheet .ensures) (c .accepted .ensures)
+
+pub read-head-spec : {M : Type 1} → statement M
+read-head-spec =
+    tie.close
+    (tie.spec
+    head-ok-requires
+    refused-requires
+    returns
+    shared-slice-read-inputs-of
+    add-inputs-of
+    shared-slice-read-inputs-of-2
+    add-inputs-of-2
+    shared-slice-read-inputs-of-3
+    inputs-of-requires
+    add-horizon-ok
+    shared-slice-read-horizon-ok
+    horizon-ok-requires
+    refused-requires-2
+    returns-2
+    head-sheet-requires
+    accepted-requires
+    returns-3)

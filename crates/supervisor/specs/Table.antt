@@ -1,0 +1,62 @@
+-- The model of the supervisor table (document 01): the table of steps, the rounds over it, and the bytes.
+-- Assumes nothing.
+use mathlib.Core.Bool.{cond}
+use mathlib.Core.List.{List, [], _∷_, _++_}
+use Prim.Native.Nat.{ℕ, _+_, _*_, _/_, _%_}
+use lib.ListN.{length, getD}
+use Rattle.records.specs.Lists.{tab, cat}
+use Rattle.records.specs.Numbers.{zeros, u16Bytes}
+use Rattle.records.specs.Cursor.{header}
+use Rattle.sheet.specs.Decoded.{Decoded, inputLines}
+use Rattle.product.specs.Step.{inputsOf, outputsOf}
+use Rattle.product.specs.States.{lettersOf}
+use Rattle.product.specs.Numbered.{stateCount, cellOf}
+use Rattle.rounds.specs.Rounds.{isIn, settled, maskOf}
+
+-- the table of steps as one list, a row of letters for each product state
+unfoldable pub cellsOf : Decoded → List ℕ
+cellsOf d =
+    tab (stateCount d * lettersOf d)
+    (λ at. cellOf d (at / lettersOf d) (at % lettersOf d % inputsOf d) (at % lettersOf d / inputsOf d))
+
+-- for each product state the round that drops it, 0 if it is kept
+unfoldable pub droppedOf : Decoded → List ℕ
+droppedOf d = settled (cellsOf d) (stateCount d) (inputsOf d) (outputsOf d) (zeros (stateCount d))
+
+-- 1 if state k is kept, else 0
+unfoldable pub keptFlag : List ℕ → ℕ → ℕ
+keptFlag dropped k = cond (isIn dropped k) 1 0
+
+-- ---- the bytes, from a table of steps and its rounds
+
+-- kind 19: mode, inputs, outputs and the count
+unfoldable pub tableHead : Decoded → ℕ → List ℕ
+tableHead d count = header 5 19 ++ (d .mode ∷ inputLines d ∷ d .outputs ∷ u16Bytes count)
+
+-- kind 18: whether the state is kept, and a mask for each input
+unfoldable pub tableRow : List ℕ → List ℕ → ℕ → ℕ → ℕ → List ℕ
+tableRow cells dropped inputs outputs k =
+    header (1 + inputs) 18 ++ (keptFlag dropped k ∷ tab inputs (maskOf cells dropped inputs outputs k))
+
+unfoldable pub tableOf : Decoded → ℕ → List ℕ → List ℕ → List ℕ
+tableOf d count cells dropped =
+    tableHead d count ++ cat count (tableRow cells dropped (inputsOf d) (outputsOf d))
+
+-- the supervisor table of a sheet
+unfoldable pub supervisorTable : Decoded → List ℕ
+supervisorTable d = tableOf d (stateCount d) (cellsOf d) (droppedOf d)
+
+-- a row's length, and the table's
+unfoldable pub rowLength : ℕ → ℕ
+rowLength inputs = 5 + inputs
+
+unfoldable pub tableLength : ℕ → ℕ → ℕ
+tableLength inputs count = 9 + count * rowLength inputs
+
+-- ---- where the parts stand
+
+unfoldable pub keptAt : List ℕ → ℕ → ℕ → ℕ
+keptAt table inputs k = getD table (9 + k * rowLength inputs + 4) 0
+
+unfoldable pub maskAt : List ℕ → ℕ → ℕ → ℕ → ℕ
+maskAt table inputs k i = getD table (9 + k * rowLength inputs + 5 + i) 0

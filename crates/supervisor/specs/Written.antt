@@ -1,0 +1,141 @@
+-- The maker of supervisor tables: its returns, judged from what solving leaves, and its whole promise.
+-- Assumes nothing.
+use mathlib.Core.Path.{_≡_, sym, ap, _∙_, subst}
+use mathlib.Core.Bool.{Bool, true, false}
+use mathlib.Core.List.{List, _∷_, _++_}
+use Prim.Native.Nat.{ℕ, _^_, _≤_, _<_}
+use native.Mathlib.Omega.{arith}
+use lib.Dec.{leb}
+use lib.ListN.{length, take}
+use lib.Seq.{sets, take-append-seam}
+use borrow.Author.Tests.{le-leb, lt-leb}
+use Rattle.records.specs.Tests.{by-test}
+use Rattle.records.specs.Limits.{maxStates}
+use Rattle.records.specs.Lists.{cat, sets-append, sets-front}
+use Rattle.records.specs.Numbers.{Bytes, u16Bytes}
+use Rattle.records.specs.Cursor.{header}
+use Rattle.sheet.specs.Decoded.{Decoded}
+use Rattle.sheet.specs.Where.{decoded, Fits}
+use Rattle.sheet.specs.Reader.{reading}
+use Rattle.sheet.specs.Promises.{Reads}
+use Rattle.sheet.specs.Laws.{reads, only-sheet}
+use Rattle.sheet.specs.declared.layout.Sheet.{Sheet}
+use Rattle.sheet.specs.declared.layout.Refusal.the-variants as ground
+use Rattle.product.specs.Step.{inputsOf, outputsOf}
+use Rattle.product.specs.Numbered.{stateCount}
+use Rattle.supervisor.specs.Table.{tableHead, tableRow, tableOf, supervisorTable, tableLength}
+use Rattle.supervisor.specs.Solve.{Solution}
+use Rattle.supervisor.specs.Making.{sheetOf, madeLength, Judges, Answers}
+use Rattle.supervisor.specs.Promises.{tuplesLength, cellsLength, droppedLength, workOk, MakesSupervisor}
+use Rattle.supervisor.specs.Bytes.{length-table}
+use Rattle.supervisor.specs.Solving.{layout-inputs, layout-outputs, layout-head, solution-table}
+use Rattle.supervisor.specs.Demand.{means}
+use Rattle.supervisor.specs.Grounds.{start-in}
+use Rattle.supervisor.specs.Judging.{Only, judges-lost, judges-short, judges-made, made-says, makes}
+use Rattle.supervisor.specs.declared.make.Made.{Made}
+use Rattle.supervisor.specs.declared.make.Made.the-variants.{Table, Refused}
+
+-- ---- work memory
+
+-- every slice is long enough
+pub work-long : (tuples cells dropped : ℕ) → tuplesLength ≤ tuples → cellsLength ≤ cells → droppedLength ≤ dropped
+    → workOk tuples cells dropped ≡ true
+unfolding workOk
+work-long tuples cells dropped h k l =
+    rw (le-leb tuplesLength tuples h, le-leb cellsLength cells k, le-leb droppedLength dropped l)
+
+-- one of the slices is too short
+pub short-tuples : (tuples cells dropped : ℕ) → tuples < tuplesLength → workOk tuples cells dropped ≡ false
+unfolding workOk
+short-tuples tuples cells dropped h = rw (lt-leb tuplesLength tuples h)
+
+pub short-cells : (tuples cells dropped : ℕ) → cells < cellsLength → workOk tuples cells dropped ≡ false
+unfolding workOk
+short-cells tuples cells dropped h = rw (lt-leb cellsLength cells h) (by-test (leb tuplesLength tuples) (λ y. rw y) (λ y. rw y))
+
+pub short-dropped : (tuples cells dropped : ℕ) → dropped < droppedLength → workOk tuples cells dropped ≡ false
+unfolding workOk
+short-dropped tuples cells dropped h =
+    rw (lt-leb droppedLength dropped h)
+    (by-test (leb tuplesLength tuples) (λ y. by-test (leb cellsLength cells) (λ z. rw (y, z)) (λ z. rw (y, z))) (λ y. rw y))
+
+-- ---- the returns, once the sheet is solved
+
+module _
+    {d : Decoded} {n kept : ℕ} {start : Bool} {tuples cells dropped : List ℕ}
+    (solution : Solution d n kept start tuples cells dropped) (before : List ℕ)
+  where
+    -- the states fit
+    few : stateCount d ≤ maxStates
+    few = omega (arith, solution .numbering .counted, solution .numbering .most)
+
+    -- the table is as long as the code says
+    size-is : length (supervisorTable d) ≡ tableLength (inputsOf d) n
+    size-is = ap length (sym (solution-table solution)) ∙ length-table d n cells dropped
+
+    -- the start is not kept
+    pub solved-lost : start ≡ false → Judges supervisorTable stateCount d before (Refused ground.Unrealizable) before
+    solved-lost e = judges-lost supervisorTable stateCount d before few (sym (solution .start-kept) ∙ e)
+
+    -- the result is too short
+    pub solved-short : start ≡ true → length before < tableLength (inputsOf d) n
+        → Judges supervisorTable stateCount d before (Refused ground.ShortResult) before
+    solved-short e h =
+        judges-short supervisorTable stateCount d before few (sym (solution .start-kept) ∙ e) (omega (arith, size-is))
+
+    -- head and rows are written
+    pub solved-made : start ≡ true → tableLength (inputsOf d) n ≤ length before
+        → Judges supervisorTable stateCount d before (Table (tableLength (inputsOf d) n) n)
+        (sets (sets before 0 (tableHead d n)) 9 (cat n (tableRow cells dropped (inputsOf d) (outputsOf d))))
+    unfolding tableOf tableHead
+    solved-made e h =
+        let rows : List ℕ = cat n (tableRow cells dropped (inputsOf d) (outputsOf d)) in
+        let bytes : sets (sets before 0 (tableHead d n)) 9 rows ≡ sets before 0 (supervisorTable d) =
+        sets-append before 0 (tableHead d n) rows ∙ ap (λ (t : List ℕ). sets before 0 t) (solution-table solution) in
+        rw (bytes, ← size-is, solution .numbering .counted)
+        (judges-made supervisorTable stateCount d before few (sym (solution .start-kept) ∙ e) (omega (arith, size-is)))
+
+-- the same in a layout's numbers
+pub layout-made : {s : List ℕ} {h : Sheet} → Fits s h
+    → {n kept : ℕ} {start : Bool} {tuples cells dropped : List ℕ} → Solution (decoded s h) n kept start tuples cells dropped
+    → (before : List ℕ) (inputs outputs size : ℕ) → inputs ≡ 2 ^ h .inputs → outputs ≡ 2 ^ h .outputs
+    → start ≡ true → size ≡ tableLength inputs n → size ≤ length before
+    → Judges supervisorTable stateCount (decoded s h) before (Table size n)
+    (sets (sets before 0 (header 5 19 ++ (h .mode ∷ h .inputs ∷ h .outputs ∷ u16Bytes n))) 9 (cat n (tableRow cells dropped inputs outputs)))
+layout-made {s} {h} fits {n} {kept} {start} {tuples} {cells} {dropped} solution before inputs outputs size i o e is room =
+    let ins : inputs ≡ inputsOf (decoded s h) = i ∙ layout-inputs fits in
+    let outs : outputs ≡ outputsOf (decoded s h) = o ∙ layout-outputs s h in
+    let whole : size ≡ tableLength (inputsOf (decoded s h)) n = is ∙ ap (λ (x : ℕ). tableLength x n) ins in
+    rw (ins, outs, whole)
+    (subst (λ (l : List ℕ). Judges supervisorTable stateCount (decoded s h) before (Table (tableLength (inputsOf (decoded s h)) n) n)
+    (sets (sets before 0 l) 9 (cat n (tableRow cells dropped (inputsOf (decoded s h)) (outputsOf (decoded s h))))))
+    (sym (layout-head fits n)) (solved-made solution before e (omega arith)))
+
+-- ---- the promise
+
+-- a table that fits is what the result begins with
+front : (before table : List ℕ) → length table ≤ length before → take (length table) (sets before 0 table) ≡ table
+front before table h = rw (sets-front before table h) (take-append-seam table _)
+
+-- the whole promise, from the answer by the model
+pub supervisor-makes : {s before : List ℕ} {r : Made} {after : List ℕ} (tuples cells dropped : ℕ)
+    → Answers supervisorTable stateCount (workOk tuples cells dropped) s before r after
+    → Reads s (reading s) → Only s → MakesSupervisor s before tuples cells dropped r after
+supervisor-makes {s} {before} {r} {after} tuples cells dropped answers read only =
+    record {
+      makes = makes supervisorTable stateCount answers read only;
+      means = λ e.
+          let x = made-says supervisorTable stateCount answers e in
+          let size : madeLength r ≡ length (supervisorTable (sheetOf s)) = answers .size ∙ rw e in
+          let bytes : after ≡ sets before 0 (supervisorTable (sheetOf s)) = answers .bytes ∙ rw e in
+          rw (size, bytes, front before (supervisorTable (sheetOf s)) (x .4))
+          (means (sheetOf s) (x .2) (start-in (sheetOf s) (x .2) .0 (x .3)));
+      work-bytes = omega arith;
+    }
+
+-- the same of any bytes, by the laws of the reader
+pub supervisor-promise : {s before : List ℕ} {r : Made} {after : List ℕ} (tuples cells dropped : ℕ) → Bytes s
+    → Answers supervisorTable stateCount (workOk tuples cells dropped) s before r after
+    → MakesSupervisor s before tuples cells dropped r after
+supervisor-promise {s} tuples cells dropped bytes answers =
+    supervisor-makes tuples cells dropped answers (reads s bytes) (only-sheet s)

@@ -1,0 +1,4 @@
+-- Value iteration, the output order, the choice, and the states of the guard, over a table of steps.
+pub mod Order
+pub mod Values
+pub mod Guard
