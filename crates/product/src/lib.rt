@@ -1,3 +1,2 @@
-// Product states: one step of a tuple, and the states numbered as first met.
-pub mod states;
+// One step of a tuple: what a step of the monitors means, in code.
 pub mod step;
