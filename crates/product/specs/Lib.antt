@@ -4,7 +4,7 @@ pub mod Stages
 pub mod Range
 pub mod Reads
 pub mod Rewards
+pub mod Tuples
 pub mod States
 pub mod Numbered
 pub mod NumberedLaws
-pub mod Tuples
