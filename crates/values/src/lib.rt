@@ -1,1 +1,2 @@
 // Value iteration, the output order, the choice, and the states of the guard, over a table of steps.
+pub mod order;
