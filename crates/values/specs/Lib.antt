@@ -3,3 +3,5 @@ pub mod Order
 pub mod Values
 pub mod Guard
 pub mod Ranks
+pub mod Sizes
+pub mod Growth

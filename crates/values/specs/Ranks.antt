@@ -11,6 +11,7 @@ use native.Mathlib.Numerals.{add-one}
 use native.Mathlib.Omega.{arith}
 use lib.Dec.{ltb, eqb}
 use lib.ListN.{length, getD}
+use lib.Pow.{pow-mono}
 use borrow.Author.Tests.{eqb-true, eqb-false, lt-ltb, le-ltb}
 use Rattle.records.specs.Tests.{both-ways, by-test}
 use Rattle.records.specs.Bounded.{cases-suc, any, any-at, any-not}
@@ -52,6 +53,10 @@ module _ (literals : List ℕ) where
   unfolding rankBy
   rank-low zero o = omega arith
   rank-low (suc n) o = omega (arith, rank-low n o, digit-low (holds (getD literals n 0) o), pow-suc 2 n)
+
+  -- three literals give ranks below 8
+  pub rank-small : (n o r : ℕ) → r ≡ rankBy literals n o → n ≤ 3 → r < 8
+  rank-small n o r e h = let most : 2 ^ n ≤ 2 ^ 3 = pow-mono {j = 3} h in omega (arith, rank-low n o)
 
   -- the literals before n hold of both outputs or of neither
   abbrev Alike : ℕ → ℕ → ℕ → Type 0

@@ -1,2 +1,3 @@
 // Value iteration, the output order, the choice, and the states of the guard, over a table of steps.
 pub mod order;
+pub mod values;

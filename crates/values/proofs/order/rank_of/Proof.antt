@@ -1,13 +1,12 @@
 -- `values::order::rank_of`: the rank by the literals before j. Assumes nothing.
 use mathlib.Core.Path.{_≡_, sym, _∙_}
 use mathlib.Core.Logic.{⊎-elim}
-use Prim.Native.Nat.{ℕ, _-_, _^_, _≤_, _<_}
+use Prim.Native.Nat.{_-_, _≤_, _<_}
 use native.Mathlib.Omega.{arith}
 use borrow.Author.Needs.{needs}
-use lib.Pow.{pow-mono}
 use Rattle.records.specs.Tests.{said}
 use Rattle.values.specs.Order.{rankBy}
-use Rattle.values.specs.Ranks.{rank-none, rank-more, rank-low}
+use Rattle.values.specs.Ranks.{rank-none, rank-more, rank-small}
 use Rattle.values.proofs.order.rank_of.Statement.{statement}
 use Rattle.values.proofs.order.rank_of.Tie as tie
 
@@ -19,9 +18,7 @@ abbrev μ-loop : tie.MeasureT-loop
 
 -- three literals give ranks below 8
 small : (c : tie.At-loop Inv-loop μ-loop) → c .loop .rank < 8
-small c =
-    let most : 2 ^ c .loop .j ≤ 2 ^ 3 = pow-mono {j = 3} (omega arith) in
-    omega (arith, rank-low (c .before .blocks) (c .loop .j) (c .before .args .o))
+small c = rank-small _ _ _ _ (c .loop .inv .1) (omega arith)
 
 loop-holds : tie.Need-loop-holds Inv-loop μ-loop
 loop-holds c = (omega arith, sym (rank-none _ _))

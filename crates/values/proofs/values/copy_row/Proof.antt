@@ -1,0 +1,67 @@
+use Rattle.values.proofs.values.copy_row.Statement.{statement}
+use Rattle.values.proofs.values.copy_row.Tie as tie
+use Rattle.values.proofs.values.copy_row.Reads as reads
+use Rattle.values.proofs.values.copy_row.Lts as lts
+
+abbrev Inv-loop : tie.InvT-loop
+Inv-loop values₀ next n k₀ values k = ?
+
+abbrev μ-loop : tie.MeasureT-loop
+μ-loop values₀ next n k₀ values k = ?
+
+-- src/values.rt:166:5
+loop-holds : tie.Need-loop-holds Inv-loop μ-loop
+loop-holds c = ?
+
+-- src/values.rt:167:21
+mul-values : tie.Need-mul-values Inv-loop μ-loop
+mul-values c = ?
+
+-- src/values.rt:167:21
+shared-slice-read-values : tie.Need-shared-slice-read-values Inv-loop μ-loop
+shared-slice-read-values c = ?
+
+-- src/values.rt:167:9
+mul-values-2 : tie.Need-mul-values-2 Inv-loop μ-loop
+mul-values-2 c = ?
+
+-- src/values.rt:167:9
+slice-write-values : tie.Need-slice-write-values Inv-loop μ-loop
+slice-write-values c = ?
+
+-- src/values.rt:168:9
+add-k : tie.Need-add-k Inv-loop μ-loop
+add-k c = ?
+
+-- src/values.rt:166:5
+loop-less : tie.Need-loop-less Inv-loop μ-loop
+loop-less c = ?
+
+-- src/values.rt:166:5
+loop-again : tie.Need-loop-again Inv-loop μ-loop
+loop-again c = ?
+
+-- src/values.rt:161:1
+same-length : tie.Need-same-length Inv-loop μ-loop
+same-length c = ?
+
+-- src/values.rt:161:1
+returns : tie.Need-returns Inv-loop μ-loop
+returns c = ?
+
+pub copy-row-spec : {M : Type 1} → statement M
+copy-row-spec =
+    tie.close
+    (tie.spec
+    Inv-loop
+    μ-loop
+    loop-holds
+    mul-values
+    shared-slice-read-values
+    mul-values-2
+    slice-write-values
+    add-k
+    loop-less
+    loop-again
+    same-length
+    returns)
