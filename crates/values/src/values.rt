@@ -168,3 +168,36 @@ pub fn copy_row(values: &mut [u64], next: &[u64], n: usize)
         k += 1;
     }
 }
+
+// The values over a horizon, in `values`; what it answers is the number of words of so many inputs.
+pub fn value_rows(
+    cells: &[u16],
+    dropped: &[u16],
+    gains: &[u16],
+    bonuses: &[u16],
+    inputs: usize,
+    outputs: usize,
+    n: usize,
+    values: &mut [u64],
+    next: &mut [u64],
+    horizon: u8,
+) -> u64
+    requires { ⌜ Sized (gameOf (now cells) (now dropped) (now gains) (now bonuses) inputs outputs) n ⌝ }
+    requires { ⌜ (n ≤ length (now values)) × (n ≤ length (now next)) ⌝ }
+    requires { ⌜ (horizon ≤ 24) × (inputs ^ horizon ≤ 2 ^ 24) ⌝ }
+    ensures row { λ _. ⌜ now (values .exit) ≡ valueRow (gameOf (now (cells .entry)) (now (dropped .entry)) (now (gains .entry)) (now (bonuses .entry)) inputs outputs) n (now (values .entry)) horizon ⌝ }
+    ensures words { λ r. ⌜ r ≡ inputs ^ horizon ⌝ }
+{
+    clear_row(values, n);
+    let mut factor: u64 = 1;
+    let mut p: u8 = 0;
+    while p < horizon {
+        value_round(
+            cells, dropped, gains, bonuses, inputs, outputs, n, values, next, factor,
+        );
+        copy_row(values, next, n);
+        factor *= inputs as u64;
+        p += 1;
+    }
+    factor
+}

@@ -1,61 +1,84 @@
+-- `values::values::best_score`: the best score of the outputs before o. Assumes nothing.
+use mathlib.Core.Path.{_≡_, sym, _∙_}
+use mathlib.Core.Logic.{⊎-elim}
+use Prim.Native.Nat.{_+_, _*_, _-_, _≤_, _<_}
+use lib.ListN.{length}
+use native.Mathlib.Omega.{arith}
+use borrow.Author.Needs.{needs}
+use Rattle.records.specs.Bounded.{top-none}
+use Rattle.records.specs.Tests.{said}
+use Rattle.values.specs.Values.{Game}
+use Rattle.values.specs.Sizes.{gameOf, in-table, leads-at, letter-low}
+use Rattle.values.proofs.Best.{bestBefore, scorable, best-more, best-same}
 use Rattle.values.proofs.values.best_score.Statement.{statement}
 use Rattle.values.proofs.values.best_score.Tie as tie
-use Rattle.values.proofs.values.best_score.Reads as reads
-use Rattle.values.proofs.values.best_score.Lts as lts
-use Rattle.values.proofs.values.larger.Reads as larger-reads
-use Rattle.values.proofs.values.may_give.Reads as may-give-reads
-use Rattle.values.proofs.values.next_of.Reads as next-of-reads
-use Rattle.values.proofs.values.score_of.Reads as score-of-reads
 
 abbrev Inv-loop : tie.InvT-loop
-Inv-loop cells dropped gains bonuses inputs outputs values factor k i best₀ o₀ best o = ?
+Inv-loop cells dropped gains bonuses inputs outputs values factor k i best₀ o₀ best o =
+    (o ≤ outputs) × (best ≡ bestBefore (gameOf cells dropped gains bonuses inputs outputs) values factor k i o)
 
 abbrev μ-loop : tie.MeasureT-loop
-μ-loop cells dropped gains bonuses inputs outputs values factor k i best₀ o₀ best o = ?
+μ-loop cells dropped gains bonuses inputs outputs values factor k i best₀ o₀ best o = outputs - o
 
--- src/values.rt:86:5
+abbrev entry : tie.In-loop Inv-loop μ-loop → tie.Start Inv-loop μ-loop
+entry c = c .before .before .before .before .before .before .before
+
+abbrev game : tie.Start Inv-loop μ-loop → Game
+game s = gameOf (s .args .cells .now) (s .args .dropped .now) (s .args .gains .now) (s .args .bonuses .now) (s .args .inputs) (s .args .outputs)
+
+letter : (c : tie.In-loop Inv-loop μ-loop)
+    → entry c .args .i + entry c .args .inputs * c .before .loop .o < length (entry c .args .bonuses .now)
+letter c =
+    let s = entry c in
+    omega (arith, letter-low (s .pre .1) (c .loop-test .taken), s .pre .0 .sized .bonuses)
+
 loop-holds : tie.Need-loop-holds Inv-loop μ-loop
-loop-holds c = ?
+loop-holds c = (omega arith, sym (top-none _ _))
 
--- src/values.rt:87:12
 may-give-requires : tie.Need-may-give-requires Inv-loop μ-loop
-may-give-requires c κs = ?
+may-give-requires c κs = let r = entry c .pre .0 in (
+      in-table (r .sized) (r .state) (entry c .pre .1) (c .loop-test .taken),
+      leads-at (r .sized) (r .state) (entry c .pre .1) (c .loop-test .taken),
+    )
 
--- src/values.rt:88:17
 next-of-requires : tie.Need-next-of-requires Inv-loop μ-loop
-next-of-requires c κs = ?
+next-of-requires c κs = let s = entry (c .before .before) in
+    in-table (s .pre .0 .sized) (s .pre .0 .state) (s .pre .1) (c .before .before .loop-test .taken)
 
--- src/values.rt:89:82
 mul-score-of : tie.Need-mul-score-of Inv-loop μ-loop
-mul-score-of c = ?
+mul-score-of c = omega (arith, letter (c .before .before .before))
 
--- src/values.rt:89:78
 add-score-of : tie.Need-add-score-of Inv-loop μ-loop
-add-score-of c = ?
+add-score-of c = omega (arith, letter (c .before .before .before))
 
--- src/values.rt:89:33
 score-of-requires : tie.Need-score-of-requires Inv-loop μ-loop
-score-of-requires c κs = ?
+score-of-requires c κs = let i = c .before .before .before in
+    scorable (entry i .pre .0) _ (entry i .pre .1) (i .loop-test .taken)
+    (said (c .before .before .may-give .ensures) (c .before .if1 .taken)) (c .next-of .ensures)
 
--- src/values.rt:89:13
 larger-requires : tie.Need-larger-requires Inv-loop μ-loop
-larger-requires c κs = ?
+larger-requires c κs = search needs
 
--- src/values.rt:91:9
 add-o : tie.Need-add-o Inv-loop μ-loop
-add-o c = ?
+add-o c = omega arith
 
--- src/values.rt:86:5
 loop-less : tie.Need-loop-less Inv-loop μ-loop
-loop-less c = ?
+loop-less c = omega arith
 
--- src/values.rt:86:5
 loop-again : tie.Need-loop-again Inv-loop μ-loop
-loop-again c = ?
+loop-again c = let i = c .before .before in
+    let g = game (entry i) in (
+      omega arith,
+      ⊎-elim
+          (λ w. best-more g _ _ _ _ _ (said (c .before .may-give .ensures) (w .0 .taken)) (w .1 .ensures) (w .2 .ensures)
+          (i .before .loop .inv .1) (w .4 ∙ w .3 .ensures))
+          (λ w. best-same g _ _ _ _ _ (said (c .before .may-give .ensures) (w .0 .left)) (i .before .loop .inv .1) (w .1))
+          (c .if1 .came),
+    )
 
--- src/values.rt:68:1
 returns : tie.Need-returns Inv-loop μ-loop
-returns c = ?
+returns c = let e : c .before .loop .o ≡ c .before .before .before .before .before .before .before .args .outputs = omega arith in
+    c .before .loop .inv .1 ∙ rw e
 
 pub best-score-spec : {M : Type 1} → statement M
 best-score-spec =

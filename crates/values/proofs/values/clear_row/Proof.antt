@@ -1,45 +1,41 @@
+-- `values::values::clear_row`: the values before k are 0. Assumes nothing.
+use mathlib.Core.Path.{_≡_, sym, _∙_}
+use Prim.Native.Nat.{_-_, _≤_}
+use native.Mathlib.Omega.{arith}
+use borrow.Author.Needs.{needs}
+use Rattle.records.specs.Lists.{put, put-none, put-more, length-put}
 use Rattle.values.proofs.values.clear_row.Statement.{statement}
 use Rattle.values.proofs.values.clear_row.Tie as tie
-use Rattle.values.proofs.values.clear_row.Reads as reads
-use Rattle.values.proofs.values.clear_row.Lts as lts
 
 abbrev Inv-loop : tie.InvT-loop
-Inv-loop values₀ n k₀ values k = ?
+Inv-loop values₀ n k₀ values k = (k ≤ n) × (values ≡ put values₀ k (λ j. 0))
 
 abbrev μ-loop : tie.MeasureT-loop
-μ-loop values₀ n k₀ values k = ?
+μ-loop values₀ n k₀ values k = n - k
 
--- src/values.rt:154:5
 loop-holds : tie.Need-loop-holds Inv-loop μ-loop
-loop-holds c = ?
+loop-holds c = (omega arith, sym (put-none _ _))
 
--- src/values.rt:155:9
 mul-values : tie.Need-mul-values Inv-loop μ-loop
-mul-values c = ?
+mul-values c = search needs
 
--- src/values.rt:155:9
 slice-write-values : tie.Need-slice-write-values Inv-loop μ-loop
-slice-write-values c = ?
+slice-write-values c = rw (c .before .loop .inv .1, length-put) (omega arith)
 
--- src/values.rt:156:9
 add-k : tie.Need-add-k Inv-loop μ-loop
-add-k c = ?
+add-k c = omega arith
 
--- src/values.rt:154:5
 loop-less : tie.Need-loop-less Inv-loop μ-loop
-loop-less c = ?
+loop-less c = omega arith
 
--- src/values.rt:154:5
 loop-again : tie.Need-loop-again Inv-loop μ-loop
-loop-again c = ?
+loop-again c = (omega arith, rw (c .before .loop .inv .1) (put-more _ _ (λ j. 0)))
 
--- src/values.rt:149:1
 same-length : tie.Need-same-length Inv-loop μ-loop
-same-length c = ?
+same-length c = rw (c .before .loop .inv .1, length-put)
 
--- src/values.rt:149:1
 returns : tie.Need-returns Inv-loop μ-loop
-returns c = ?
+returns c = let e : c .before .loop .k ≡ c .before .before .args .n = omega arith in c .before .loop .inv .1 ∙ rw e
 
 pub clear-row-spec : {M : Type 1} → statement M
 clear-row-spec =

@@ -1,53 +1,48 @@
+-- `values::values::copy_row`: the values before k are those of `next`. Assumes nothing.
+use mathlib.Core.Path.{_≡_, sym, _∙_}
+use Prim.Native.Nat.{_-_, _≤_}
+use native.Mathlib.Omega.{arith}
+use borrow.Author.Needs.{needs}
+use lib.ListN.{getD}
+use Rattle.records.specs.Lists.{put, put-none, put-more, length-put}
 use Rattle.values.proofs.values.copy_row.Statement.{statement}
 use Rattle.values.proofs.values.copy_row.Tie as tie
-use Rattle.values.proofs.values.copy_row.Reads as reads
-use Rattle.values.proofs.values.copy_row.Lts as lts
 
 abbrev Inv-loop : tie.InvT-loop
-Inv-loop values₀ next n k₀ values k = ?
+Inv-loop values₀ next n k₀ values k = (k ≤ n) × (values ≡ put values₀ k (λ j. getD next j 0))
 
 abbrev μ-loop : tie.MeasureT-loop
-μ-loop values₀ next n k₀ values k = ?
+μ-loop values₀ next n k₀ values k = n - k
 
--- src/values.rt:166:5
 loop-holds : tie.Need-loop-holds Inv-loop μ-loop
-loop-holds c = ?
+loop-holds c = (omega arith, sym (put-none _ _))
 
--- src/values.rt:167:21
 mul-values : tie.Need-mul-values Inv-loop μ-loop
-mul-values c = ?
+mul-values c = search needs
 
--- src/values.rt:167:21
 shared-slice-read-values : tie.Need-shared-slice-read-values Inv-loop μ-loop
-shared-slice-read-values c = ?
+shared-slice-read-values c = omega arith
 
--- src/values.rt:167:9
 mul-values-2 : tie.Need-mul-values-2 Inv-loop μ-loop
-mul-values-2 c = ?
+mul-values-2 c = search needs
 
--- src/values.rt:167:9
 slice-write-values : tie.Need-slice-write-values Inv-loop μ-loop
-slice-write-values c = ?
+slice-write-values c = rw (c .before .before .loop .inv .1, length-put) (omega arith)
 
--- src/values.rt:168:9
 add-k : tie.Need-add-k Inv-loop μ-loop
-add-k c = ?
+add-k c = omega arith
 
--- src/values.rt:166:5
 loop-less : tie.Need-loop-less Inv-loop μ-loop
-loop-less c = ?
+loop-less c = omega arith
 
--- src/values.rt:166:5
 loop-again : tie.Need-loop-again Inv-loop μ-loop
-loop-again c = ?
+loop-again c = (omega arith, rw (c .before .before .loop .inv .1) (put-more _ _ (λ j. getD (c .before .before .before .args .next .now) j 0)))
 
--- src/values.rt:161:1
 same-length : tie.Need-same-length Inv-loop μ-loop
-same-length c = ?
+same-length c = rw (c .before .loop .inv .1, length-put)
 
--- src/values.rt:161:1
 returns : tie.Need-returns Inv-loop μ-loop
-returns c = ?
+returns c = let e : c .before .loop .k ≡ c .before .before .args .n = omega arith in c .before .loop .inv .1 ∙ rw e
 
 pub copy-row-spec : {M : Type 1} → statement M
 copy-row-spec =

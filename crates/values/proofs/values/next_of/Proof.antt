@@ -1,29 +1,37 @@
+-- `values::values::next_of`: what the step's cell holds. Assumes nothing.
+use Prim.Native.Nat.{_<_}
+use lib.ListN.{length}
+use native.Mathlib.Omega.{arith}
+use Rattle.rounds.specs.Laws.{cell-in-row}
 use borrow.Author.Needs.{needs}
 use Rattle.values.proofs.values.next_of.Statement.{statement}
 use Rattle.values.proofs.values.next_of.Tie as tie
-use Rattle.values.proofs.values.next_of.Reads as reads
-use Rattle.values.proofs.values.next_of.Lts as lts
-use Rattle.rounds.proofs.cell_at.Reads as cell-at-reads
 
--- src/values.rt:38:11
+-- the cell lies in the table
+inside : (c : tie.After-cell-at) → c .cell-at .result < length (c .before .before .args .cells .now)
+inside c =
+    let s = c .before .before in
+    omega (
+      arith,
+      c .cell-at .ensures,
+      cell-in-row (s .args .inputs) (s .args .outputs) (s .args .k) (s .pre .input) (s .pre .output),
+      s .pre .row,
+    )
+
 cell-at-requires : tie.Need-cell-at-requires
 cell-at-requires c κs = search needs
 
--- src/values.rt:38:5
 mul-result : tie.Need-mul-result
-mul-result c = ?
+mul-result c = omega (arith, inside c)
 
--- src/values.rt:38:5
 shared-slice-read-result : tie.Need-shared-slice-read-result
-shared-slice-read-result c = ?
+shared-slice-read-result c = inside (c .before)
 
--- src/values.rt:38:5
 cast-result : tie.Need-cast-result
-cast-result c = ?
+cast-result c = omega (arith, c .shared-slice-known2 .given (c .before .cell-at .result))
 
--- src/values.rt:34:1
 returns : tie.Need-returns
-returns c = ?
+returns c = rw (c .before .cell-at .ensures)
 
 pub next-of-spec : {M : Type 1} → statement M
 next-of-spec =
