@@ -5,3 +5,6 @@ pub mod Guard
 pub mod Ranks
 pub mod Sizes
 pub mod Growth
+pub mod Leaders
+pub mod Numbered
+pub mod Choices

@@ -106,6 +106,11 @@ module _ {g : Game} {n : ℕ} (s : Sized g n) where
   unfolding mayGive nextOf
   next-low hk hi ho may = s .inside _ (cell-in (steps-of s) hk hi ho) (leads-unbroken (g .cells) (g .dropped) _ may)
 
+  -- which is kept
+  pub next-kept : (k i o : ℕ) → mayGive g k i o ≡ true → isIn (g .dropped) (nextOf g k i o) ≡ true
+  unfolding mayGive nextOf
+  next-kept k i o may = leads-kept (g .cells) (g .dropped) _ may
+
   pub scored-at : {values : List ℕ} {factor k i o : ℕ} → Valued n values factor → k < n → i < g .inputs → o < g .outputs
       → mayGive g k i o ≡ true
       → Scored (g .gains) (g .bonuses) values factor (nextOf g k i o) (i + g .inputs * o)
