@@ -17,7 +17,7 @@ use Rattle.rounds.specs.Rounds.{cellAt, isIn, answered, leadsIn}
 use Rattle.game.specs.Choice.{Leads, before, against, leader, choose, choose-leads}
 use Rattle.values.specs.Order.{rank}
 use Rattle.values.specs.Values.{Game, Sized, mayGive, nextOf, scoreOf, choiceOf, choices}
-use Rattle.values.specs.Sizes.{next-low, next-kept}
+use Rattle.values.specs.Sizes.{steps-of, next-low, next-kept}
 use Rattle.values.specs.Guard.{chosen, follows}
 use Rattle.values.specs.Numbered.{Reached, Following, kept-closed}
 
@@ -92,7 +92,7 @@ module _ (g : Game) (literals values : List ℕ) (factor : ℕ) where
         choices-following states start =
             record {
               states = sized .states;
-              rows = sized .rows;
+              steps = steps-of sized;
               chosen-room = rw length-put room;
               output = λ at h. rw (choices-at at h) (choice-low _ _ (sized .outputs-least));
               closed = λ k r. kept-closed g (choices g n literals values factor memory) n states start choices-stay k r .0;

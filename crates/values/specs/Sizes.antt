@@ -12,8 +12,7 @@ use lib.ListN.{length, getD}
 use Rattle.records.specs.Tests.{and-left, and-right}
 use Rattle.records.specs.Bounded.{top}
 use Rattle.rounds.specs.Rounds.{Steps, brokenCell, isBroken, cellAt, isIn, leadsIn}
-use Rattle.rounds.specs.InPlace.{Leads}
-use Rattle.rounds.specs.Laws.{cell-in, row-in-table}
+use Rattle.rounds.specs.Cells.{Entered, cell-in}
 use Rattle.values.specs.Values.{Game, Sized, mayGive, nextOf, scoreOf, earns}
 
 -- the table, from its slices and the numbers of inputs and outputs
@@ -40,12 +39,6 @@ pub record Ready (g : Game) (values : List ℕ) (factor k : ℕ) : Type 0 where
   pub sized : Sized g states
   pub valued : Valued states values factor
   pub state : k < states
-
--- the step of state k at input i and output o has a cell in the table
-pub record InTable (cells : List ℕ) (inputs outputs k i o : ℕ) : Type 0 where
-  pub input : i < inputs
-  pub output : o < outputs
-  pub row : k * (inputs * outputs) + inputs * outputs ≤ length cells
 
 -- the score of a step to the state `to` by a letter
 unfoldable pub scoreAt : List ℕ → List ℕ → List ℕ → ℕ → ℕ → ℕ → ℕ
@@ -84,22 +77,8 @@ pub letter-low : {inputs outputs i o : ℕ} → i < inputs → o < outputs → i
 letter-low {inputs} {outputs} {i} {o} hi ho = omega (arith, digits-lt ho hi, mul-comm inputs o, mul-comm inputs outputs)
 
 module _ {g : Game} {n : ℕ} (s : Sized g n) where
-  pub in-table : {k i o : ℕ} → k < n → i < g .inputs → o < g .outputs → InTable (g .cells) (g .inputs) (g .outputs) k i o
-  in-table hk hi ho =
-      record {
-        input = hi;
-        output = ho;
-        row = omega (arith, s .rows, row-in-table (g .inputs * g .outputs) hk);
-      }
-
-  pub leads-at : {k i o : ℕ} → k < n → i < g .inputs → o < g .outputs
-      → Leads (g .cells) (g .dropped) (cellAt (g .inputs) (g .outputs) k i o)
-  leads-at hk hi ho =
-      let low = cell-in (steps-of s) hk hi ho in
-      record {
-        within = omega (arith, low, s .rows);
-        target = λ unbroken. omega (arith, s .inside _ low unbroken, s .dropped);
-      }
+  pub entered : {k : ℕ} → k < n → Entered (g .dropped) n k
+  entered h = record { room = s .dropped; state = h }
 
   -- an output that may be given leads to one of the n states
   pub next-low : {k i o : ℕ} → k < n → i < g .inputs → o < g .outputs → mayGive g k i o ≡ true → nextOf g k i o < n

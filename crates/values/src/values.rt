@@ -9,9 +9,9 @@ ghost use Prim.Native.Nat.{_+_, _*_, _^_, _≤_, _<_, max};
 ghost use lib.ListN.{length, getD};
 ghost use Rattle.records.specs.Lists.{put};
 ghost use Rattle.rounds.specs.Rounds.{cellAt, leadsIn};
-ghost use Rattle.rounds.specs.InPlace.{Leads};
+ghost use Rattle.rounds.specs.Cells.{InRow, Leads};
 ghost use Rattle.values.specs.Values.{Sized, worth, valueRow};
-ghost use Rattle.values.specs.Sizes.{gameOf, Valued, Ready, InTable, scoreAt, Scored, bestOf};
+ghost use Rattle.values.specs.Sizes.{gameOf, Valued, Ready, scoreAt, Scored, bestOf};
 
 // Whether an output may be given: its step is unbroken and ends in a kept state.
 pub fn may_give(
@@ -23,7 +23,7 @@ pub fn may_give(
     i: usize,
     o: usize,
 ) -> bool
-    requires { ⌜ InTable (now cells) inputs outputs k i o ⌝ }
+    requires { ⌜ InRow inputs outputs k i o ⌝ }
     requires { ⌜ Leads (now cells) (now dropped) (cellAt inputs outputs k i o) ⌝ }
     ensures { λ r. ⌜ r ≡ leadsIn (now (cells .entry)) (now (dropped .entry)) (cellAt inputs outputs k i o) ⌝ }
 {
@@ -32,7 +32,8 @@ pub fn may_give(
 
 // The state after a step.
 pub fn next_of(cells: &[u16], inputs: usize, outputs: usize, k: usize, i: usize, o: usize) -> usize
-    requires { ⌜ InTable (now cells) inputs outputs k i o ⌝ }
+    requires { ⌜ InRow inputs outputs k i o ⌝ }
+    requires { ⌜ cellAt inputs outputs k i o < length (now cells) ⌝ }
     ensures { λ r. ⌜ r ≡ getD (now (cells .entry)) (cellAt inputs outputs k i o) 0 ⌝ }
 {
     cells[cell_at(inputs, outputs, k, i, o)] as usize

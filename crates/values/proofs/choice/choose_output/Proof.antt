@@ -1,13 +1,15 @@
 -- `values::choice::choose_output`: the leader of the outputs before o. Assumes nothing.
-use mathlib.Core.Path.{_≡_, sym, _∙_}
+use mathlib.Core.Path.{_≡_, refl, _∙_}
 use mathlib.Core.Logic.{⊎-elim}
 use Prim.Native.Nat.{_+_, _*_, _-_, _≤_, _<_}
 use lib.ListN.{length}
 use native.Mathlib.Omega.{arith}
 use borrow.Author.Needs.{needs}
 use Rattle.records.specs.Tests.{said}
+use Rattle.rounds.specs.Rounds.{cellAt}
+use Rattle.rounds.specs.Cells.{InRow, Leads, in-row, leads-at}
 use Rattle.values.specs.Values.{Game}
-use Rattle.values.specs.Sizes.{gameOf, in-table, leads-at, letter-low}
+use Rattle.values.specs.Sizes.{gameOf, steps-of, entered, letter-low}
 use Rattle.values.proofs.Best.{scorable}
 use Rattle.values.proofs.Leading.{leading, lead-begin, lead-more, lead-same, lead-low, lead-end}
 use Rattle.values.proofs.choice.choose_output.Statement.{statement}
@@ -26,6 +28,20 @@ entry c = c .before .before .before .before .before .before .before
 abbrev game : tie.Start Inv-loop μ-loop → Game
 game s = gameOf (s .args .cells .now) (s .args .dropped .now) (s .args .gains .now) (s .args .bonuses .now) (s .args .inputs) (s .args .outputs)
 
+-- the cell of output o
+row : (c : tie.In-loop Inv-loop μ-loop)
+    → let a = entry (c .before) .args in InRow (a .inputs) (a .outputs) (a .k) (a .i) (c .before .loop .o)
+row c =
+    let p = entry (c .before) .pre in
+    in-row (steps-of (p .0 .sized)) (omega arith) (p .0 .state) (p .1 .0) (c .loop-test .taken)
+
+leads : (c : tie.In-loop Inv-loop μ-loop)
+    → let a = entry (c .before) .args in
+    Leads (a .cells .now) (a .dropped .now) (cellAt (a .inputs) (a .outputs) (a .k) (a .i) (c .before .loop .o))
+leads c =
+    let p = entry (c .before) .pre in
+    leads-at (steps-of (p .0 .sized)) (entered (p .0 .sized) (p .0 .state)) (p .1 .0) (c .loop-test .taken) refl
+
 letter : (c : tie.In-loop Inv-loop μ-loop)
     → entry (c .before) .args .i + entry (c .before) .args .inputs * c .before .loop .o < length (entry (c .before) .args .bonuses .now)
 letter c =
@@ -38,14 +54,10 @@ loop-holds : tie.Need-loop-holds Inv-loop μ-loop
 loop-holds c = (omega arith, lead-begin _ _ _ _ _ _ _ (c .none .ensures))
 
 may-give-requires : tie.Need-may-give-requires Inv-loop μ-loop
-may-give-requires c κs = let p = entry (c .before) .pre in (
-      in-table (p .0 .sized) (p .0 .state) (p .1 .0) (c .loop-test .taken),
-      leads-at (p .0 .sized) (p .0 .state) (p .1 .0) (c .loop-test .taken),
-    )
+may-give-requires c κs = (row c, leads c)
 
 next-of-requires : tie.Need-next-of-requires Inv-loop μ-loop
-next-of-requires c κs = let p = entry (c .before .before .before) .pre in
-    in-table (p .0 .sized) (p .0 .state) (p .1 .0) (c .before .before .loop-test .taken)
+next-of-requires c κs = (row (c .before .before), leads (c .before .before) .within)
 
 mul-score-of : tie.Need-mul-score-of Inv-loop μ-loop
 mul-score-of c = omega (arith, letter (c .before .before .before))

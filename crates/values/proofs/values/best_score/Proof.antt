@@ -1,5 +1,5 @@
 -- `values::values::best_score`: the best score of the outputs before o. Assumes nothing.
-use mathlib.Core.Path.{_≡_, sym, _∙_}
+use mathlib.Core.Path.{_≡_, refl, sym, _∙_}
 use mathlib.Core.Logic.{⊎-elim}
 use Prim.Native.Nat.{_+_, _*_, _-_, _≤_, _<_}
 use lib.ListN.{length}
@@ -7,8 +7,10 @@ use native.Mathlib.Omega.{arith}
 use borrow.Author.Needs.{needs}
 use Rattle.records.specs.Bounded.{top-none}
 use Rattle.records.specs.Tests.{said}
+use Rattle.rounds.specs.Rounds.{cellAt}
+use Rattle.rounds.specs.Cells.{InRow, Leads, in-row, leads-at}
 use Rattle.values.specs.Values.{Game}
-use Rattle.values.specs.Sizes.{gameOf, in-table, leads-at, letter-low}
+use Rattle.values.specs.Sizes.{gameOf, steps-of, entered, letter-low}
 use Rattle.values.proofs.Best.{bestBefore, scorable, best-more, best-same}
 use Rattle.values.proofs.values.best_score.Statement.{statement}
 use Rattle.values.proofs.values.best_score.Tie as tie
@@ -26,6 +28,18 @@ entry c = c .before .before .before .before .before .before .before
 abbrev game : tie.Start Inv-loop μ-loop → Game
 game s = gameOf (s .args .cells .now) (s .args .dropped .now) (s .args .gains .now) (s .args .bonuses .now) (s .args .inputs) (s .args .outputs)
 
+-- the cell of output o
+row : (c : tie.In-loop Inv-loop μ-loop) → InRow (entry c .args .inputs) (entry c .args .outputs) (entry c .args .k) (entry c .args .i) (c .before .loop .o)
+row c =
+    let r = entry c .pre .0 in in-row (steps-of (r .sized)) (omega arith) (r .state) (entry c .pre .1) (c .loop-test .taken)
+
+leads : (c : tie.In-loop Inv-loop μ-loop)
+    → Leads (entry c .args .cells .now) (entry c .args .dropped .now)
+    (cellAt (entry c .args .inputs) (entry c .args .outputs) (entry c .args .k) (entry c .args .i) (c .before .loop .o))
+leads c =
+    let r = entry c .pre .0 in
+    leads-at (steps-of (r .sized)) (entered (r .sized) (r .state)) (entry c .pre .1) (c .loop-test .taken) refl
+
 letter : (c : tie.In-loop Inv-loop μ-loop)
     → entry c .args .i + entry c .args .inputs * c .before .loop .o < length (entry c .args .bonuses .now)
 letter c =
@@ -36,14 +50,10 @@ loop-holds : tie.Need-loop-holds Inv-loop μ-loop
 loop-holds c = (omega arith, sym (top-none _ _))
 
 may-give-requires : tie.Need-may-give-requires Inv-loop μ-loop
-may-give-requires c κs = let r = entry c .pre .0 in (
-      in-table (r .sized) (r .state) (entry c .pre .1) (c .loop-test .taken),
-      leads-at (r .sized) (r .state) (entry c .pre .1) (c .loop-test .taken),
-    )
+may-give-requires c κs = (row c, leads c)
 
 next-of-requires : tie.Need-next-of-requires Inv-loop μ-loop
-next-of-requires c κs = let s = entry (c .before .before) in
-    in-table (s .pre .0 .sized) (s .pre .0 .state) (s .pre .1) (c .before .before .loop-test .taken)
+next-of-requires c κs = (row (c .before .before), leads (c .before .before) .within)
 
 mul-score-of : tie.Need-mul-score-of Inv-loop μ-loop
 mul-score-of c = omega (arith, letter (c .before .before .before))

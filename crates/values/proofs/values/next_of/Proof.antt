@@ -2,21 +2,13 @@
 use Prim.Native.Nat.{_<_}
 use lib.ListN.{length}
 use native.Mathlib.Omega.{arith}
-use Rattle.rounds.specs.Laws.{cell-in-row}
 use borrow.Author.Needs.{needs}
 use Rattle.values.proofs.values.next_of.Statement.{statement}
 use Rattle.values.proofs.values.next_of.Tie as tie
 
 -- the cell lies in the table
 inside : (c : tie.After-cell-at) → c .cell-at .result < length (c .before .before .args .cells .now)
-inside c =
-    let s = c .before .before in
-    omega (
-      arith,
-      c .cell-at .ensures,
-      cell-in-row (s .args .inputs) (s .args .outputs) (s .args .k) (s .pre .input) (s .pre .output),
-      s .pre .row,
-    )
+inside c = rw (c .cell-at .ensures) (c .before .before .pre .1)
 
 cell-at-requires : tie.Need-cell-at-requires
 cell-at-requires c κs = search needs
