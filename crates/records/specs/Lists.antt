@@ -104,6 +104,13 @@ put-self [] n = refl
 put-self (x ∷ d) zero = refl
 put-self (x ∷ d) (suc n) = ap (λ (t : List ℕ). x ∷ t) (put-self d n)
 
+-- what is put twice is what was put last
+pub put-put : (d : List ℕ) (n : ℕ) (f g : ℕ → ℕ) → put (put d n f) n g ≡ put d n g
+unfolding put
+put-put [] n f g = refl
+put-put (x ∷ d) zero f g = refl
+put-put (x ∷ d) (suc n) f g = ap (λ (t : List ℕ). g 0 ∷ t) (put-put d n (λ k. f (suc k)) (λ k. g (suc k)))
+
 -- only what f says below n counts
 pub put-ext : (d : List ℕ) (n : ℕ) (f g : ℕ → ℕ) → ((k : ℕ) → k < n → f k ≡ g k) → put d n f ≡ put d n g
 unfolding put
