@@ -2,3 +2,4 @@
 pub mod Order
 pub mod Values
 pub mod Guard
+pub mod Ranks
