@@ -2,3 +2,6 @@
 pub mod Meaning
 pub mod Table
 pub mod Promises
+pub mod Playing
+pub mod Best
+pub mod Reaching
