@@ -5,3 +5,5 @@ pub mod Promises
 pub mod Playing
 pub mod Best
 pub mod Reaching
+pub mod Representing
+pub mod Running
