@@ -7,3 +7,4 @@ pub mod Best
 pub mod Reaching
 pub mod Representing
 pub mod Running
+pub mod Demand
