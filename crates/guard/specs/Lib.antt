@@ -8,3 +8,5 @@ pub mod Reaching
 pub mod Representing
 pub mod Running
 pub mod Demand
+pub mod Written
+pub mod Agree

@@ -85,7 +85,8 @@ module _ (d : Decoded) (fits : stateCount d ≤ maxStates) where
 
     -- ---- the guard's states, where the start is in
 
-    abbrev Met : ℕ → Type 0
+    -- the states that chosen outputs meet
+    abbrev pub Met : ℕ → Type 0
     Met = Reach ℕ (inputsOf d) (λ k i. true) (λ k i. follows (gameOf d) (choicesOf d h) k i) 0
 
     -- there is one, the first
@@ -104,7 +105,8 @@ module _ (d : Decoded) (fits : stateCount d ≤ maxStates) where
         explore-reached ℕ eqb (inputsOf d) (λ k i. true) (λ k i. follows (gameOf d) (choicesOf d h) k i) 0 (stateCount d) j l
 
     module _ (start : isIn (droppedOf d) 0 ≡ true) where
-      met-inside : (k : ℕ) → Met k → Inside d k
+      -- chosen outputs meet no state that a round drops
+      pub met-inside : (k : ℕ) → Met k → Inside d k
       met-inside k here = record { low = some-state d; kept = start }
       met-inside k (there {s = q} i r hi t) = follows-inside q i (met-inside q r) hi
 
