@@ -12,6 +12,7 @@ use Rattle.records.specs.GuardTable.{rowAt}
 use Rattle.board.specs.Board.{countsOk, live, emptyBoard, runAt}
 use Rattle.board.specs.Table.{sizeOk, fieldsOk, headOk, entryOk, entriesOk, rowOk, rowsOk, loadable, boardOf, loadOn, loadNumber}
 use Rattle.board.specs.Step.{proposal, deviates, outputAt, nextAt, entryFits, moved, lookedUp, stepOn, stepNumber, stepOutput}
+use Rattle.board.specs.declared.answers.Stepping.{Stepping}
 use Rattle.board.specs.History.{Call, load, step, Event, after, history, strayed}
 
 abbrev tableA : List ℕ
@@ -30,10 +31,12 @@ tableS =
     ∷ 4 ∷ 0 ∷ 17 ∷ 0 ∷ 0 ∷ 0 ∷ 0 ∷ 0
     ∷ []
 
--- what a board of A answers at each place to each input, and where it goes
+-- what a board of A answers at each place to each input: number, output, next place
+abbrev shown : Stepping → List ℕ
+shown r = stepNumber (r .answer) ∷ stepOutput (r .answer) ∷ r .board .place ∷ []
+
 abbrev listing : List (List ℕ)
-listing =
-    cat 3 (λ k. tab 2 (λ i. let r = stepOn (runAt (boardOf tableA) k 0 0) tableA i in stepNumber (r .answer) ∷ stepOutput (r .answer) ∷ r .board .place ∷ []))
+listing = cat 3 (λ k. tab 2 (λ i. shown (stepOn (runAt (boardOf tableA) k 0 0) tableA i)))
 
 -- a load and five steps of A, a load and four steps of the shield; the latest call first
 abbrev runA : List Call
@@ -47,7 +50,12 @@ outputs = map (λ (e : Event). e .output)
 
 pub record Examples : Type 0 where
   pub loads : loadNumber (loadOn emptyBoard tableA .answer) ≡ 0
-  pub lists : listing ≡ (0 ∷ 0 ∷ 1 ∷ []) ∷ (0 ∷ 1 ∷ 2 ∷ []) ∷ (0 ∷ 0 ∷ 1 ∷ []) ∷ (0 ∷ 1 ∷ 2 ∷ []) ∷ (0 ∷ 0 ∷ 1 ∷ []) ∷ (0 ∷ 0 ∷ 0 ∷ []) ∷ []
+  pub lists :
+      listing
+      ≡ (0 ∷ 0 ∷ 1 ∷ []) ∷ (0 ∷ 1 ∷ 2 ∷ [])
+      ∷ (0 ∷ 0 ∷ 1 ∷ []) ∷ (0 ∷ 1 ∷ 2 ∷ [])
+      ∷ (0 ∷ 0 ∷ 1 ∷ []) ∷ (0 ∷ 0 ∷ 0 ∷ [])
+      ∷ []
   pub runs : outputs (history emptyBoard runA) ≡ 1 ∷ 0 ∷ 1 ∷ 0 ∷ 1 ∷ 0 ∷ []
   pub letter : stepNumber (stepOn (boardOf tableA) tableA 2 .answer) ≡ 12
   pub occupied : loadNumber (loadOn (after emptyBoard runA) tableS .answer) ≡ 21

@@ -16,14 +16,17 @@ use Rattle.board.proofs.Board.step.Statement.{statement}
 use Rattle.board.proofs.Board.step.Tie as tie
 
 -- past each test but the last: the board is live, has steps left, and the input is in range
-alive : (c : tie.Else1) → live (c .before .before .before .args .self) ≡ true
+abbrev start : tie.Else1 → tie.Start
+start c = c .before .before .before
+
+alive : (c : tie.Else1) → live (start c .args .self) ≡ true
 alive c = said-yes (c .before .is-live .ensures) (c .if1 .left)
 
 abbrev first : tie.Else2 → tie.Else1
 first c = c .before .before
 
 abbrev entry : tie.Else2 → tie.Start
-entry c = first c .before .before .before
+entry c = start (first c)
 
 room : (c : tie.Else2) → leb maxSteps (entry c .args .self .steps) ≡ false
 room c = search cases
@@ -32,7 +35,7 @@ letter : (c : tie.Else3) → ltb (entry (c .before .before) .args .input) (2 ^ e
 letter c = search (cases, ← c .before .pow2 .ensures)
 
 -- the tests that refuse
-spent : (c : tie.Then2) → leb maxSteps (c .before .before .before .before .before .args .self .steps) ≡ true
+spent : (c : tie.Then2) → leb maxSteps (start (c .before .before) .args .self .steps) ≡ true
 spent c = search cases
 
 stranger : (c : tie.Then3) → ltb (entry (c .before .before) .args .input) (2 ^ entry (c .before .before) .args .self .inputs) ≡ false

@@ -40,7 +40,8 @@ below c = omega (arith, c .before .loop-test .taken, turn c .before .pow2 .ensur
 inside : (c : tie.After-entry-at Inv-loop μ-loop) → c .entry-at .result + 1 < length (now (args c .args .t))
 inside c =
     let a = args c .args in
-    omega (arith, entry-inside (a .inputs) (a .place) (a .count) (turn c .loop .input) (args c .pre .1) (below c), c .entry-at .ensures, args c .pre .0 .fills)
+    let h = entry-inside (a .inputs) (a .place) (a .count) (turn c .loop .input) (args c .pre .1) (below c) in
+    omega (arith, h, c .entry-at .ensures, args c .pre .0 .fills)
 
 pow2-requires : tie.Need-pow2-requires Inv-loop μ-loop
 pow2-requires c κs = omega arith

@@ -5,6 +5,10 @@ use borrow.Author.Needs.{needs}
 use Rattle.board.proofs.table.head_ok.Statement.{statement}
 use Rattle.board.proofs.table.head_ok.Tie as tie
 
+-- where the fields are tested
+abbrev tested : tie.After-fields-ok → tie.Then2
+tested c = c .before .before .before .before .before .before
+
 returns : tie.Need-returns
 unfolding headOk
 returns c = search cases
@@ -32,8 +36,9 @@ fields-ok-requires c κs = search needs
 
 returns-2 : tie.Need-returns-2
 unfolding headOk
-returns-2 c = let b = c .before .before .before .before .before .before in
-    search (cases, said (b .before .header-is .ensures) (b .if2 .taken), c .before .u16-at .ensures, c .fields-ok .ensures)
+returns-2 c =
+    let d = tested c in
+    search (cases, said (d .before .header-is .ensures) (d .if2 .taken), c .before .u16-at .ensures, c .fields-ok .ensures)
 
 returns-3 : tie.Need-returns-3
 unfolding headOk
