@@ -2,3 +2,11 @@
 pub mod Meaning
 pub mod Table
 pub mod Promises
+pub mod Playing
+pub mod Best
+pub mod Reaching
+pub mod Representing
+pub mod Running
+pub mod Demand
+pub mod Written
+pub mod Agree

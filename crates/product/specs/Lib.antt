@@ -1,5 +1,10 @@
--- Product states: one step of a tuple, and the states numbered as first met.
+-- One step of a tuple (Step) with its laws, and the product states: reachable tuples, numbered as first met (States, Numbered).
 pub mod Step
+pub mod Stages
+pub mod Range
+pub mod Reads
+pub mod Rewards
+pub mod Tuples
 pub mod States
 pub mod Numbered
 pub mod NumberedLaws

@@ -7,3 +7,4 @@ pub mod Numbers
 pub mod Cursor
 pub mod Limits
 pub mod Layout
+pub mod GuardTable

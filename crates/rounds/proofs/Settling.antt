@@ -1,14 +1,14 @@
 -- The loop of rounds, left at the first that drops nothing.
 -- Assumes nothing.
-use mathlib.Core.Path.{_≡_, refl, sym, ap, _∙_}
+use mathlib.Core.Path.{_≡_, sym, _∙_}
 use mathlib.Core.List.{List}
 use Prim.Native.Nat.{ℕ, zero, suc, _+_, _-_, _≤_, _<_}
 use native.Mathlib.Numerals.{add-one}
 use native.Mathlib.Omega.{arith}
 use lib.ListN.{length, getD}
-use Rattle.records.specs.Bounded.{count, count-all}
+use Rattle.records.specs.Bounded.{count-all}
 use Rattle.records.specs.Lists.{put, put-ext, put-self, getD-put-front}
-use Rattle.rounds.specs.Rounds.{isIn, round, rounds, settled, keptCount, Settled}
+use Rattle.rounds.specs.Rounds.{round, rounds, keptCount, Settled}
 use Rattle.rounds.specs.InPlace.{Rounded}
 use Rattle.rounds.specs.Laws.{Stable, length-round, length-rounds, in-first, entry-most, fewer, quiet-stable, stable-round, stable-settled}
 
@@ -62,39 +62,46 @@ module _ {cells : List ℕ} {n inputs outputs : ℕ} {memory start now : List �
   pub low : (k : ℕ) → k < n → getD now k 0 < made + 1
   low k h = rw from-memory (omega (arith, entry-most cells n inputs outputs memory (b .room) made k h))
 
-  module _ {after : List ℕ} {lost : ℕ} (turn : Rounded cells n inputs outputs (made + 1) now after lost) where
-    -- what the round made
-    is-round : after ≡ round cells n inputs outputs (suc made) now
-    is-round = turn .entries ∙ rw (add-one made)
+-- a round more
+pub record Turned (cells : List ℕ) (n inputs outputs : ℕ) (memory start now after : List ℕ) (kept made lost : ℕ) : Type 0 where
+  pub began : Began n memory start
+  pub inv : Settling cells n inputs outputs start now kept made
+  pub turn : Rounded cells n inputs outputs (made + 1) now after lost
 
-    pub same-after : length after ≡ length memory
-    same-after = rw is-round (length-round cells n inputs outputs (suc made) now ∙ same)
+module _ {cells : List ℕ} {n inputs outputs : ℕ} {memory start now after : List ℕ} {kept made lost : ℕ}
+    (t : Turned cells n inputs outputs memory start now after kept made lost) where
+  -- what it made
+  is-round : after ≡ round cells n inputs outputs (suc made) now
+  is-round = t .turn .entries ∙ rw (add-one made)
 
-    pub lost-most : lost ≤ kept
-    lost-most = omega (arith, turn .counted, inv .counted)
+  pub same-after : length after ≡ length memory
+  same-after = rw is-round (length-round cells n inputs outputs (suc made) now ∙ same (t .began) (t .inv))
 
-    pub less : (lost ≡ 0 → ⊥) → kept - lost < kept
-    less ne = omega (arith, lost-most)
+  pub lost-most : lost ≤ kept
+  lost-most = omega (arith, t .turn .counted, t .inv .counted)
 
-    pub go : (lost ≡ 0 → ⊥) → Settling cells n inputs outputs start after (kept - lost) (made + 1)
-    unfolding rounds
-    go ne =
-        let down : keptCount n after ≤ keptCount n now = rw is-round (fewer cells n inputs outputs made now room-now) in
-        let some : 1 ≤ lost = omega arith in
-        record {
-          entries = rw add-one (is-round ∙ rw (inv .entries));
-          counted = omega (arith, turn .counted, inv .counted);
-          enough = omega (arith, inv .enough, turn .counted, inv .counted);
-        }
+  pub less : (lost ≡ 0 → ⊥) → kept - lost < kept
+  less ne = omega (arith, lost-most)
 
-    pub stop : lost ≡ 0 → Settled cells n inputs outputs memory after kept
-    stop e =
-        let still : Stable cells n inputs outputs now =
-        quiet-stable cells n inputs outputs made now room-now (rw (← is-round) (omega (arith, turn .counted))) in
-        let unchanged : after ≡ now = is-round ∙ stable-round cells n inputs outputs (suc made) now still in
-        record {
-          entries =
-              unchanged ∙ from-memory
-              ∙ stable-settled cells n inputs outputs memory made (omega (arith, inv .enough)) (rw from-memory at still);
-          counted = rw unchanged (inv .counted);
-        }
+  pub go : (lost ≡ 0 → ⊥) → Settling cells n inputs outputs start after (kept - lost) (made + 1)
+  unfolding rounds
+  go ne =
+      let down : keptCount n after ≤ keptCount n now = rw is-round (fewer cells n inputs outputs made now (room-now (t .began) (t .inv))) in
+      let some : 1 ≤ lost = omega arith in
+      record {
+        entries = rw add-one (is-round ∙ rw (t .inv .entries));
+        counted = omega (arith, t .turn .counted, t .inv .counted);
+        enough = omega (arith, t .inv .enough, t .turn .counted, t .inv .counted);
+      }
+
+  pub stop : lost ≡ 0 → Settled cells n inputs outputs memory after kept
+  stop e =
+      let still : Stable cells n inputs outputs now =
+      quiet-stable cells n inputs outputs made now (room-now (t .began) (t .inv)) (rw (← is-round) (omega (arith, t .turn .counted))) in
+      let unchanged : after ≡ now = is-round ∙ stable-round cells n inputs outputs (suc made) now still in
+      record {
+        entries =
+            unchanged ∙ from-memory (t .began) (t .inv)
+            ∙ stable-settled cells n inputs outputs memory made (omega (arith, t .inv .enough)) (rw (from-memory (t .began) (t .inv)) at still);
+        counted = rw unchanged (t .inv .counted);
+      }

@@ -1,15 +1,14 @@
 -- The entries at the start of the round that is under way, as the code reads them.
 -- Assumes nothing.
-use mathlib.Core.Path.{_≡_, refl, sym, ap, _∙_}
-use mathlib.Core.Bool.{Bool, true, false, cond}
+use mathlib.Core.Path.{_≡_, sym, _∙_}
+use mathlib.Core.Bool.{true, false, cond}
 use mathlib.Core.List.{List}
-use Prim.Native.Nat.{ℕ, _+_, _≤_, _<_}
-use native.Mathlib.Omega.{arith}
+use Prim.Native.Nat.{ℕ, _<_}
 use lib.Dec.{eqb}
 use lib.ListN.{length, getD}
 use borrow.Author.Tests.{eqb-true, eq-eqb, ne-eqb}
 use Rattle.records.specs.Tests.{by-test}
-use Rattle.records.specs.Lists.{put, put-ext, put-self, getD-put-front}
+use Rattle.records.specs.Lists.{put-ext, put-self, getD-put-front}
 use Rattle.rounds.specs.Rounds.{isBroken, isIn, leadsIn}
 use Rattle.rounds.specs.InPlace.{atStart}
 

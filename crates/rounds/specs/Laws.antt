@@ -40,10 +40,12 @@ module _ (cells : List ℕ) (n inputs outputs : ℕ) where
   abbrev pub Stable : List ℕ → Type 0
   Stable d = (k : ℕ) → k < n → isIn d k ≡ true → stays cells d inputs outputs k ≡ true
 
+  -- a round adds no entry and takes none away
   pub length-round : (r : ℕ) (d : List ℕ) → length (round cells n inputs outputs r d) ≡ length d
   unfolding round
   length-round r d = length-put d n _
 
+  -- what it leaves at each of the n entries
   pub round-at : (r : ℕ) (d : List ℕ) → n ≤ length d → (k : ℕ) → k < n
       → getD (round cells n inputs outputs r d) k 0 ≡ entryAfter cells inputs outputs r d k
   unfolding round
@@ -71,7 +73,7 @@ module _ (cells : List ℕ) (n inputs outputs : ℕ) where
   unfolding keptCount
   fewer r d room = count-mono n _ _ (λ k h e. and-left _ _ (sym (in-round r d room k h) ∙ e))
 
-  -- one that keeps as many drops nothing, and changes no entry, whatever its number
+  -- where a round keeps as many, nothing was to drop
   pub quiet-stable : (r : ℕ) (d : List ℕ) → n ≤ length d
       → keptCount n d ≤ keptCount n (round cells n inputs outputs (suc r) d) → Stable d
   unfolding keptCount
@@ -80,6 +82,7 @@ module _ (cells : List ℕ) (n inputs outputs : ℕ) where
       (sym (in-round r d room k h)
       ∙ count-tight n _ _ (λ j u v. and-left (isIn d j) _ (sym (in-round r d room j u) ∙ v)) le k h e)
 
+  -- where nothing is to drop, a round of any number leaves all as it is
   pub stable-round : (r : ℕ) (d : List ℕ) → Stable d → round cells n inputs outputs r d ≡ d
   unfolding round entryAfter
   stable-round r d stable = put-ext d n _ _ (λ k h. go k (isIn d k) (stable k h)) ∙ put-self d n
@@ -115,6 +118,7 @@ module _ (cells : List ℕ) (n inputs outputs : ℕ) (memory : List ℕ) where
   stable-late r stable (suc j) =
       rw (add-suc, stable-late r stable j) (stable-round cells n inputs outputs (suc (r + j)) _ stable)
 
+  -- the same of the rounds to their end
   pub length-settled : length (settled cells n inputs outputs memory) ≡ length memory
   unfolding settled
   length-settled = length-rounds n

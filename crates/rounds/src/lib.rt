@@ -2,7 +2,7 @@
 // `inputs` and `outputs` are the numbers of inputs and of outputs; `dropped` holds for each state the round, counted
 // from 1, that dropped it, and 0 while it is in.
 ghost use mathlib.Core.Path.{_≡_};
-ghost use Prim.Native.Nat.{ℕ, _+_, _*_, _<_, _≤_};
+ghost use Prim.Native.Nat.{ℕ, _<_, _≤_};
 ghost use lib.ListN.{length, getD};
 ghost use Rattle.records.specs.Limits.{maxStates};
 ghost use Rattle.records.specs.Lists.{put};

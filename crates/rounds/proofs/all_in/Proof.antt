@@ -2,7 +2,6 @@
 use mathlib.Core.Path.{_≡_, sym, _∙_}
 use Prim.Native.Nat.{_≤_, _-_}
 use native.Mathlib.Omega.{arith}
-use lib.ListN.{length}
 use Rattle.records.specs.Lists.{put, put-none, put-more, length-put}
 use Rattle.rounds.proofs.all_in.Statement.{statement}
 use Rattle.rounds.proofs.all_in.Tie as tie

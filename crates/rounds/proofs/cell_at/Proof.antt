@@ -15,15 +15,15 @@ mul-result-2 c = search needs
 
 mul-result-3 : tie.Need-mul-result-3
 unfolding cellAt
-mul-result-3 c = omega (arith, cell-in-row (c .pre))
+mul-result-3 c = omega (arith, cell-in-row (c .args .k) (c .pre .input) (c .pre .output))
 
 add-result : tie.Need-add-result
 unfolding cellAt
-add-result c = omega (arith, cell-in-row (c .pre))
+add-result c = omega (arith, cell-in-row (c .args .k) (c .pre .input) (c .pre .output))
 
 add-result-2 : tie.Need-add-result-2
 unfolding cellAt
-add-result-2 c = omega (arith, cell-in-row (c .pre))
+add-result-2 c = omega (arith, cell-in-row (c .args .k) (c .pre .input) (c .pre .output))
 
 returns : tie.Need-returns
 unfolding cellAt

@@ -5,7 +5,6 @@ use mathlib.Core.Logic.{⊎-elim}
 use Prim.Native.Nat.{_-_}
 use native.Mathlib.Omega.{arith}
 use Rattle.records.specs.Tests.{said, said-no, said-yes}
-use Rattle.rounds.specs.Rounds.{cellAt}
 use Rattle.rounds.specs.Masks.{allows, mask-bits, mask-lost}
 use Rattle.rounds.specs.Cells.{in-row, leads-at}
 use Rattle.rounds.proofs.Masking.{Masking, begin, fits, bit-on, bit-off, end}

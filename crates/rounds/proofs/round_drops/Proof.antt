@@ -1,5 +1,5 @@
 -- `rounds::round_drops`: the two tests, in the definition's order. Assumes nothing.
-use mathlib.Core.Path.{sym, ap, _∙_}
+use mathlib.Core.Path.{ap}
 use mathlib.Core.Bool.{not}
 use Rattle.records.specs.Tests.{said-no, said-yes}
 use Rattle.rounds.specs.InPlace.{drops}

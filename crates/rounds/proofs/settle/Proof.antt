@@ -1,10 +1,6 @@
 -- `rounds::settle`: each round made so far dropped a state; the one that drops nothing is the last. Assumes nothing.
-use Rattle.rounds.proofs.Settling.{Settling, Began, begin, room-now, low, same-after, lost-most, less, go, stop}
-use mathlib.Core.Path.{_≡_}
-use Prim.Native.Nat.{_≤_}
+use Rattle.rounds.proofs.Settling.{Settling, Began, Turned, begin, room-now, low, same-after, lost-most, less, go, stop}
 use native.Mathlib.Omega.{arith}
-use lib.ListN.{length}
-use Rattle.records.specs.Lists.{put}
 use Rattle.rounds.proofs.settle.Statement.{statement}
 use Rattle.rounds.proofs.settle.Tie as tie
 
@@ -15,50 +11,56 @@ abbrev μ-loop : tie.MeasureT-loop
 μ-loop cells dropped₀ n inputs outputs kept₀ made₀ dropped kept made = kept
 
 -- the places that the needs look back to
-abbrev entry : tie.At-loop Inv-loop μ-loop → tie.Start Inv-loop μ-loop
-entry c = c .before .before .before .before .before .before .before
+abbrev entry : tie.After-slice-known2 Inv-loop μ-loop → tie.Start Inv-loop μ-loop
+entry c = c .before .before .before .before .before .before
 
 abbrev head : tie.After-slice-known3 Inv-loop μ-loop → tie.At-loop Inv-loop μ-loop
 head c = c .before .before .before .before
 
--- the loop begins with all states in
-began : (c : tie.After-slice-known2 Inv-loop μ-loop) →
-    let s = c .before .before .before .before .before .before in
-    Began (s .args .n) (s .args .dropped .now) (c .before .before .all-in .last .0)
-began c =
-    record { room = c .before .before .before .before .before .before .pre .1 .0; cleared = c .before .before .all-in .ensures }
+-- the loop begins with all states in, and has made a round more
+begun : (c : tie.After-slice-known2 Inv-loop μ-loop) →
+    Began (entry c .args .n) (entry c .args .dropped .now) (c .before .before .all-in .last .0)
+begun c = record { room = entry c .pre .1 .0; cleared = c .before .before .all-in .ensures }
+
+turned : (c : tie.After-slice-known3 Inv-loop μ-loop) →
+    let a = entry (head c .before) .args in
+    let at = head c .loop in
+    let made = c .before .before .one-round in
+    Turned (a .cells .now) (a .n) (a .inputs) (a .outputs) (a .dropped .now) (head c .before .before .before .all-in .last .0)
+    (at .dropped) (made .last .1 .0) (at .kept) (at .made) (made .result)
+turned c = record { began = begun (head c .before); inv = head c .loop .inv; turn = c .before .before .one-round .ensures }
 
 all-in-requires : tie.Need-all-in-requires Inv-loop μ-loop
 all-in-requires c κs = omega arith
 
 loop-holds : tie.Need-loop-holds Inv-loop μ-loop
-loop-holds c = begin _ _ _ _ (began c)
+loop-holds c = begin _ _ _ _ (begun c)
 
 add-one-round : tie.Need-add-one-round Inv-loop μ-loop
 add-one-round c = omega (arith, c .before .loop .inv .enough)
 
 one-round-requires : tie.Need-one-round-requires Inv-loop μ-loop
-one-round-requires c κs = let b = began (c .before .before) in
-    let at = c .before .loop .inv in
-    (entry (c .before) .pre .0, (room-now b at, low b at))
+one-round-requires c κs =
+    let b = begun (c .before .before) in
+    (entry (c .before .before) .pre .0, (room-now b (c .before .loop .inv), low b (c .before .loop .inv)))
 
 sub-kept : tie.Need-sub-kept Inv-loop μ-loop
-sub-kept c = omega (arith, lost-most (began (head (c .before) .before)) (head (c .before) .loop .inv) (c .before .before .before .one-round .ensures))
+sub-kept c = omega (arith, lost-most (turned (c .before)))
 
 add-made : tie.Need-add-made Inv-loop μ-loop
 add-made c = omega (arith, head (c .before) .loop .inv .enough)
 
 loop-less : tie.Need-loop-less Inv-loop μ-loop
-loop-less c = less (began (head (c .before) .before)) (head (c .before) .loop .inv) (c .before .before .before .one-round .ensures) (λ z. omega arith)
+loop-less c = less (turned (c .before)) (λ z. omega arith)
 
 loop-again : tie.Need-loop-again Inv-loop μ-loop
-loop-again c = go (began (head (c .before) .before)) (head (c .before) .loop .inv) (c .before .before .before .one-round .ensures) (λ z. omega arith)
+loop-again c = go (turned (c .before)) (λ z. omega arith)
 
 same-length : tie.Need-same-length Inv-loop μ-loop
-same-length c = same-after (began (head (c .before) .before)) (head (c .before) .loop .inv) (c .before .before .before .one-round .ensures)
+same-length c = same-after (turned (c .before))
 
 returns : tie.Need-returns Inv-loop μ-loop
-returns c = stop (began (head (c .before) .before)) (head (c .before) .loop .inv) (c .before .before .before .one-round .ensures) (omega arith)
+returns c = stop (turned (c .before)) (omega arith)
 
 pub settle-spec : {M : Type 1} → statement M
 settle-spec =

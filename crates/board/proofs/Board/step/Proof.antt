@@ -1,0 +1,98 @@
+-- `board::Board::step`: the tests in the definition's order. Assumes nothing.
+use native.Mathlib.Omega.{arith}
+use mathlib.Core.Path.{_≡_}
+use mathlib.Core.Bool.{true, false}
+use Prim.Native.Nat.{_^_}
+use lib.Dec.{leb, ltb}
+use borrow.Author.Tests.{ltb-true}
+use Rattle.records.specs.Tests.{cases, said-no, said-yes}
+use Rattle.records.specs.Limits.{maxSteps, lines-facts}
+use Rattle.board.specs.Board.{live}
+use Rattle.board.specs.Step.{stepOn}
+use Rattle.board.specs.Facts.{live-facts}
+use Rattle.board.proofs.Promises.{step-promise}
+use borrow.Author.Needs.{needs}
+use Rattle.board.proofs.Board.step.Statement.{statement}
+use Rattle.board.proofs.Board.step.Tie as tie
+
+-- past each test but the last: the board is live, has steps left, and the input is in range
+abbrev start : tie.Else1 → tie.Start
+start c = c .before .before .before
+
+alive : (c : tie.Else1) → live (start c .args .self) ≡ true
+alive c = said-yes (c .before .is-live .ensures) (c .if1 .left)
+
+abbrev first : tie.Else2 → tie.Else1
+first c = c .before .before
+
+abbrev entry : tie.Else2 → tie.Start
+entry c = start (first c)
+
+room : (c : tie.Else2) → leb maxSteps (entry c .args .self .steps) ≡ false
+room c = search cases
+
+letter : (c : tie.Else3) → ltb (entry (c .before .before) .args .input) (2 ^ entry (c .before .before) .args .self .inputs) ≡ true
+letter c = search (cases, ← c .before .pow2 .ensures)
+
+-- the tests that refuse
+spent : (c : tie.Then2) → leb maxSteps (start (c .before .before) .args .self .steps) ≡ true
+spent c = search cases
+
+stranger : (c : tie.Then3) → ltb (entry (c .before .before) .args .input) (2 ^ entry (c .before .before) .args .self .inputs) ≡ false
+stranger c = search (cases, ← c .before .pow2 .ensures)
+
+is-live-requires : tie.Need-is-live-requires
+is-live-requires c κs = search needs
+
+of-requires : tie.Need-of-requires
+of-requires c κs = search needs
+
+returns : tie.Need-returns
+unfolding stepOn
+returns c = let d = c .before in
+    step-promise _ _ _ _ (simp (c .of .ensures, said-no (d .before .is-live .ensures) (d .if1 .taken)))
+
+of-requires-2 : tie.Need-of-requires-2
+of-requires-2 c κs = search needs
+
+returns-2 : tie.Need-returns-2
+unfolding stepOn
+returns-2 c =
+    step-promise _ _ _ _ (simp (c .of2 .ensures, alive (c .before .before .before), spent (c .before)))
+
+pow2-requires : tie.Need-pow2-requires
+pow2-requires c κs = let h = lines-facts _ _ _ (live-facts _ (alive (first c)) .lines) in
+    omega arith
+
+of-requires-3 : tie.Need-of-requires-3
+of-requires-3 c κs = search needs
+
+returns-3 : tie.Need-returns-3
+unfolding stepOn
+returns-3 c =
+    let d = c .before .before .before in
+    step-promise _ _ _ _ (simp (c .of3 .ensures, alive (first d), room d, stranger (c .before)))
+
+look-up-requires : tie.Need-look-up-requires
+look-up-requires c κs = (alive (first (c .before .before)), ltb-true _ _ (letter c))
+
+returns-4 : tie.Need-returns-4
+unfolding stepOn
+returns-4 c =
+    let d = c .before .before .before in
+    step-promise _ _ _ _ (simp (alive (first d), room d, letter (c .before)) (c .look-up .ensures))
+
+pub step-spec : {M : Type 1} → statement M
+step-spec =
+    tie.close
+    (tie.spec
+    is-live-requires
+    of-requires
+    returns
+    of-requires-2
+    returns-2
+    pow2-requires
+    of-requires-3
+    returns-3
+    look-up-requires
+    returns-4)

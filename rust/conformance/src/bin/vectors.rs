@@ -1,0 +1,43 @@
+//! Runs a vectors file against the reference or the library.
+//!
+//! Usage: `vectors reference FILE` or `vectors library FILE [--listing PROGRAM]`. The last line is
+//! `N agree, M differ, K passed over`; the exit status is 1 where M is not 0, and 2 for bad usage.
+
+use std::path::PathBuf;
+use std::process::ExitCode;
+
+use conformance::{vectors, Library, Reference, Subject};
+
+/// How much of a difference is shown.
+const SHOWN: usize = 300;
+
+fn main() -> ExitCode {
+    let arguments: Vec<String> = std::env::args().skip(1).collect();
+    let arguments: Vec<&str> = arguments.iter().map(String::as_str).collect();
+    let (mut subject, file): (Box<dyn Subject>, &str) = match arguments.as_slice() {
+        ["reference", file] => (Box::new(Reference), file),
+        ["library", ..] if !guard::LINKED => {
+            return stop("built without the library: run `rt staticlib ffi` and build again")
+        }
+        ["library", file] => (Box::new(Library::new(None)), file),
+        ["library", file, "--listing", program] => {
+            (Box::new(Library::new(Some(PathBuf::from(program)))), file)
+        }
+        _ => return stop("usage: vectors reference|library FILE [--listing PROGRAM]"),
+    };
+    let text = match std::fs::read_to_string(file) {
+        Ok(text) => text,
+        Err(error) => return stop(&format!("{file}: {error}")),
+    };
+    let tally = vectors::run(&text, subject.as_mut(), &mut |line, how| {
+        let how: String = how.chars().take(SHOWN).collect();
+        println!("{file}:{line}: {how}");
+    });
+    println!("{tally}");
+    ExitCode::from(u8::from(tally.differ != 0))
+}
+
+fn stop(reason: &str) -> ExitCode {
+    eprintln!("vectors: {reason}");
+    ExitCode::from(2)
+}

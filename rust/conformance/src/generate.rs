@@ -1,0 +1,535 @@
+//! Sheets, tables and boards for the property tests: sound ones of every shape, and damaged ones.
+
+use reference::{Board, STATES_MOST, STEPS_MOST};
+
+use crate::Random;
+
+const CONTROLLER: u8 = 0;
+const SHIELD: u8 = 1;
+const HARD: u8 = 0;
+const SOFT: u8 = 1;
+const LIMIT: u8 = 2;
+
+/// A record of any kind.
+pub fn record(kind: u16, body: &[u8]) -> Vec<u8> {
+    let mut bytes = (body.len() as u16).to_le_bytes().to_vec();
+    bytes.extend(kind.to_le_bytes());
+    bytes.extend(body);
+    bytes
+}
+
+/// The mode and lines of a sheet's head.
+#[derive(Clone, Copy, Debug, PartialEq, Eq)]
+pub struct Shape {
+    pub mode: u8,
+    pub lines_in: u8,
+    pub outputs: u8,
+}
+
+impl Shape {
+    /// Every shape that a sheet may have.
+    pub fn all() -> Vec<Shape> {
+        let mut shapes = Vec::new();
+        for outputs in 1..=3 {
+            for lines_in in 0..=4 {
+                if lines_in + outputs <= 6 {
+                    shapes.push(Shape { mode: CONTROLLER, lines_in, outputs });
+                }
+                if lines_in + outputs <= 4 && lines_in + 2 * outputs <= 6 {
+                    shapes.push(Shape { mode: SHIELD, lines_in, outputs });
+                }
+            }
+        }
+        shapes
+    }
+
+    /// The guard's input lines.
+    pub fn inputs(self) -> u8 {
+        self.lines_in + if self.mode == SHIELD { self.outputs } else { 0 }
+    }
+
+    /// The longest horizon.
+    pub fn horizon_most(self) -> u8 {
+        24 / self.inputs().max(1)
+    }
+
+    /// The letters of a monitor's rows.
+    pub fn letters(self, role: u8) -> usize {
+        if role == LIMIT {
+            4
+        } else {
+            1 << (self.lines_in + self.outputs)
+        }
+    }
+}
+
+/// A sheet's head in bounds.
+pub fn head(random: &mut Random, shape: Shape) -> Vec<u8> {
+    let most = shape.horizon_most();
+    let horizon = match random.below(6) {
+        0 => 0,
+        1 => 1,
+        2 => most,
+        _ => random.byte_below(most + 1),
+    };
+    let match_weight = match (shape.mode, random.below(3)) {
+        (CONTROLLER, _) | (_, 0) => 0,
+        (_, 1) => random.byte_below(4),
+        _ => random.byte(),
+    };
+    let mut lines: Vec<u8> = (0..shape.outputs).collect();
+    for place in (1..lines.len()).rev() {
+        lines.swap(place, random.below(place + 1));
+    }
+    let mut body = vec![shape.mode, shape.lines_in, shape.outputs, horizon, match_weight];
+    body.extend(lines.into_iter().map(|line| line + 8 * random.byte_below(2)));
+    record(1, &body)
+}
+
+/// How the next states of a monitor come about.
+#[derive(Clone, Copy, Debug)]
+enum Style {
+    /// Anywhere.
+    Wild,
+    /// Stays, or now and then goes anywhere.
+    Slow,
+    /// Each state reads one line.
+    Lines,
+    /// One letter bit moves on, wrapping round.
+    Counter,
+    /// Some letters move on and the others stay; the last state holds.
+    Budget,
+    /// Some letters move on and the others go back to the start; the last state holds.
+    Streak,
+}
+
+/// A monitor in bounds, with at most so many states.
+pub fn monitor(random: &mut Random, shape: Shape, role: u8, most: usize) -> Vec<u8> {
+    let states = 1 + random.below(most.clamp(1, 32));
+    let letters = shape.letters(role);
+    let bits = letters.trailing_zeros() as usize;
+    let styles = [
+        Style::Wild,
+        Style::Slow,
+        Style::Lines,
+        Style::Counter,
+        Style::Budget,
+        Style::Streak,
+        Style::Streak,
+    ];
+    let style = random.pick(&styles);
+    let line = random.below(bits);
+    let moving = random.number() & random.number();
+    let start = if random.once_in(3) { random.below(states) } else { 0 };
+    let mut rows = Vec::with_capacity(states * letters);
+    for state in 0..states {
+        let reads = random.below(bits);
+        let ways = [random.below(states), random.below(states)];
+        for letter in 0..letters {
+            let on = (state + 1).min(states - 1);
+            let moves = if role == LIMIT { letter & 2 != 0 } else { moving >> letter & 1 == 1 };
+            let next = match style {
+                Style::Wild => random.below(states),
+                Style::Slow if random.once_in(4) => random.below(states),
+                Style::Slow => state,
+                Style::Lines => ways[letter >> reads & 1],
+                Style::Counter => (state + (letter >> line & 1)) % states,
+                Style::Budget | Style::Streak if moves => on,
+                Style::Budget => state,
+                Style::Streak if state + 1 == states && random.once_in(2) => state,
+                Style::Streak => start,
+            };
+            rows.push(next as u8);
+        }
+    }
+    let accept: Vec<u8> = (0..states)
+        .map(|state| match (role, style) {
+            (SOFT, _) => random.byte_below(2),
+            (_, Style::Budget | Style::Streak) => u8::from(state + 1 < states || random.once_in(4)),
+            _ => u8::from(!random.once_in(6)),
+        })
+        .collect();
+    let weight = match (role, random.below(3)) {
+        (SOFT, 0) => 1 + random.byte_below(4),
+        (SOFT, 1) => 255 - random.byte_below(4),
+        (SOFT, _) => 1 + random.byte_below(255),
+        _ => 0,
+    };
+    let mut body = vec![role, weight, states as u8, start as u8];
+    body.extend(accept);
+    body.extend(rows);
+    record(2, &body)
+}
+
+/// A hard monitor that can be lost slowly: from each safe state some output keeps it safe, from a
+/// state of rank r some input forces it down to a lower rank, and rank 0 is broken.
+pub fn game(random: &mut Random, shape: Shape, most: usize) -> Vec<u8> {
+    let safe = 1 + random.below(most.clamp(2, 12) / 2);
+    let ranks = 1 + random.below(most.clamp(2, 20) - 1);
+    let states = safe + ranks + 1;
+    // Places 0 to safe - 1 are safe, then come the ranks from 0 up; the names are shuffled.
+    let mut names: Vec<u8> = (0..states as u8).collect();
+    for place in (1..states).rev() {
+        names.swap(place, random.below(place + 1));
+    }
+    let inputs = 1 << shape.lines_in;
+    let outputs = 1 << shape.outputs;
+    let mut next = vec![vec![0; inputs * outputs]; states];
+    let mut accept = vec![1; states];
+    for place in 0..states {
+        let forced = random.below(inputs);
+        for input in 0..inputs {
+            let kept = random.below(outputs);
+            for output in 0..outputs {
+                let to = match place.checked_sub(safe) {
+                    None if output == kept => random.below(safe),
+                    Some(0) => place,
+                    Some(rank) if input == forced && output == kept => safe + rank - 1,
+                    Some(rank) if input == forced => safe + random.below(rank),
+                    _ => random.below(states),
+                };
+                next[usize::from(names[place])][output * inputs + input] = names[to];
+            }
+        }
+    }
+    accept[usize::from(names[safe])] = 0;
+    let start = if random.once_in(8) { random.below(states) } else { random.below(safe) };
+    let mut body = vec![HARD, 0, states as u8, names[start]];
+    body.extend(accept);
+    body.extend(next.concat());
+    record(2, &body)
+}
+
+/// A sheet that none of 1 to 6 applies to; 7 and 8 may.
+pub fn sheet(random: &mut Random) -> Vec<u8> {
+    let shapes = Shape::all();
+    let mode = random.byte_below(2);
+    let shape = loop {
+        let shape = random.pick(&shapes);
+        if shape.mode == mode {
+            break shape;
+        }
+    };
+    let mut bytes = head(random, shape);
+    // How many product states there may be at most: above 256 some sheets are refused 7.
+    let mut room: usize = random.pick(&[1, 8, 60, 200, 256, 256, 256, 600, 5000]);
+    let monitors = random.pick(&[0, 1, 2, 2, 3, 3, 4, 5, 6]);
+    for _ in 0..monitors {
+        let role = match shape.mode {
+            SHIELD => random.pick(&[HARD, HARD, SOFT, SOFT, LIMIT]),
+            _ => random.pick(&[HARD, SOFT]),
+        };
+        let most = match (random.below(8), shape.mode, role) {
+            (0, _, _) => room,
+            (_, SHIELD, HARD) => room.isqrt().min(4),
+            _ => room.min(5),
+        };
+        let record = match role {
+            HARD if random.once_in(2) => game(random, shape, most.max(room.min(20))),
+            _ => monitor(random, shape, role, most),
+        };
+        let states = usize::from(record[6]);
+        let copies = if shape.mode == SHIELD && role == HARD { states } else { 1 };
+        room = (room / (states * copies)).max(1);
+        bytes.extend(record);
+    }
+    bytes
+}
+
+/// Where the records of a sheet begin, as far as they can be followed.
+fn starts(bytes: &[u8]) -> Vec<usize> {
+    let mut starts = Vec::new();
+    let mut at = 0;
+    while at + 4 <= bytes.len() {
+        starts.push(at);
+        at += 4 + usize::from(u16::from_le_bytes([bytes[at], bytes[at + 1]]));
+    }
+    starts
+}
+
+/// Damages bytes that are read as records, in one way of many.
+pub fn damage(random: &mut Random, bytes: &mut Vec<u8>) {
+    let length = bytes.len();
+    let starts = starts(bytes);
+    match random.below(10) {
+        0 => bytes.truncate(random.below(length + 1)),
+        1 => {
+            let more = 1 + random.below(5);
+            bytes.extend(vec![0; more]);
+        }
+        2 => {
+            let more = 1 + random.below(8);
+            bytes.extend(random.bytes(more));
+        }
+        3 | 4 if length > 0 => {
+            let at = random.below(length);
+            bytes[at] ^= 1 << random.below(8);
+        }
+        5 if length > 0 => {
+            let at = random.below(length.min(24));
+            bytes[at] = random.pick(&[0, 1, 2, 3, 4, 5, 7, 8, 16, 25, 31, 32, 33, 128, 255]);
+        }
+        6 if !starts.is_empty() => {
+            // A field of one record: its length, its kind, or one of the first of its body.
+            let at = random.pick(&starts) + random.below(10);
+            if at < length {
+                bytes[at] = match random.below(3) {
+                    0 => bytes[at].wrapping_add(1),
+                    1 => bytes[at].wrapping_sub(1),
+                    _ => random.byte(),
+                };
+            }
+        }
+        7 if !starts.is_empty() => {
+            // A record once more, at the end.
+            let from = random.pick(&starts);
+            let to = starts.iter().copied().find(|&start| start > from).unwrap_or(length);
+            let again = bytes[from..to].to_vec();
+            bytes.extend(again);
+        }
+        8 if starts.len() > 1 => {
+            // A record left out.
+            let place = random.below(starts.len());
+            let to = starts.get(place + 1).copied().unwrap_or(length);
+            bytes.drain(starts[place]..to);
+        }
+        9 if length > 0 => {
+            let at = random.below(length);
+            if random.once_in(2) {
+                bytes.remove(at);
+            } else {
+                bytes.insert(at, random.byte());
+            }
+        }
+        _ => {
+            let count = random.below(40);
+            *bytes = random.bytes(count);
+        }
+    }
+}
+
+/// A head with fields about their bounds, its length most times as it should be.
+fn head_about_bounds(random: &mut Random) -> Vec<u8> {
+    let outputs = random.pick(&[1, 1, 2, 2, 3, 3, 0, 4]);
+    let mut body = vec![
+        random.pick(&[0, 0, 0, 1, 1, 1, 2]),
+        random.pick(&[0, 1, 2, 2, 3, 4, 5]),
+        outputs,
+        random.pick(&[0, 1, 4, 6, 7, 8, 9, 12, 13, 24, 25, 255]),
+        random.pick(&[0, 0, 0, 1, 255]),
+    ];
+    for line in 0..outputs {
+        body.push(match random.below(12) {
+            0 => random.pick(&[0, 3, 7, 11, 15, 16, 17, 255]),
+            _ => line + 8 * random.byte_below(2),
+        });
+    }
+    match random.below(12) {
+        0 => drop(body.pop()),
+        1 => body.push(0),
+        _ => {}
+    }
+    record(random.pick(&[1, 1, 1, 1, 1, 1, 1, 2, 257]), &body)
+}
+
+/// A monitor with a field or the length about its bounds.
+fn monitor_about_bounds(random: &mut Random, shape: Shape) -> Vec<u8> {
+    let role = random.pick(&[HARD, SOFT, LIMIT]);
+    let mut bytes = monitor(random, shape, role, 4);
+    let states = bytes[6];
+    match random.below(10) {
+        0 => bytes[4] = random.pick(&[0, 1, 2, 3, 255]),
+        1 => bytes[5] = random.pick(&[0, 1, 255]),
+        2 => bytes[6] = random.pick(&[0, 1, 32, 33, 255]),
+        3 => bytes[7] = random.pick(&[states - 1, states, 255]),
+        4 => {
+            let at = 8 + random.below(usize::from(states));
+            bytes[at] = random.pick(&[1, 2, 255]);
+        }
+        5 => {
+            let last = bytes.len() - 1;
+            bytes[last] = random.pick(&[states - 1, states, 255]);
+        }
+        6 => {
+            bytes.pop();
+            let length = (bytes.len() - 4) as u16;
+            bytes[..2].copy_from_slice(&length.to_le_bytes());
+        }
+        7 => {
+            bytes.push(0);
+            let length = (bytes.len() - 4) as u16;
+            bytes[..2].copy_from_slice(&length.to_le_bytes());
+        }
+        8 => bytes[3] = random.pick(&[0, 1]),
+        _ => {}
+    }
+    bytes
+}
+
+/// Any bytes for a sheet: sound ones most times.
+pub fn any_sheet(random: &mut Random) -> Vec<u8> {
+    match random.below(12) {
+        0..=6 => sheet(random),
+        7 | 8 => {
+            let mut bytes = sheet(random);
+            for _ in 0..=random.below(2) {
+                damage(random, &mut bytes);
+            }
+            bytes
+        }
+        9 => {
+            let mut bytes = head_about_bounds(random);
+            let shape = random.pick(&Shape::all());
+            for _ in 0..random.below(3) {
+                let role = random.pick(&[HARD, SOFT, LIMIT]);
+                bytes.extend(monitor(random, shape, role, 3));
+            }
+            bytes
+        }
+        10 => {
+            let shape = random.pick(&Shape::all());
+            let mut bytes = head(random, shape);
+            for _ in 0..random.below(8) {
+                bytes.extend(if random.once_in(4) {
+                    monitor_about_bounds(random, shape)
+                } else {
+                    monitor(random, shape, SOFT, 2)
+                });
+            }
+            if random.once_in(4) {
+                let more = random.below(5);
+                bytes.extend(random.bytes(more));
+            }
+            bytes
+        }
+        _ => {
+            let count = random.pick(&[0, 1, 2, 3, 4, 5, 30, 300]);
+            random.bytes(count)
+        }
+    }
+}
+
+/// A loadable guard table with any entries.
+pub fn table(random: &mut Random) -> Vec<u8> {
+    let shape = random.pick(&Shape::all());
+    let count = match random.below(6) {
+        0 => 1,
+        1 => STATES_MOST,
+        2 => STATES_MOST - 1,
+        _ => 1 + random.below(12),
+    };
+    let horizon = random.byte_below(shape.horizon_most() + 1);
+    table_of(random, [shape.mode, shape.inputs(), shape.outputs, horizon], count)
+}
+
+/// A table with any entries by its head: mode, inputs, outputs, H, count, in bounds or not.
+fn table_of(random: &mut Random, fields: [u8; 4], count: usize) -> Vec<u8> {
+    let [mode, inputs, outputs, horizon] = fields;
+    let [low, high] = (count as u16).to_le_bytes();
+    let mut bytes = record(16, &[mode, inputs, outputs, horizon, low, high]);
+    for _ in 0..count {
+        let mut row = Vec::with_capacity(2 << inputs);
+        for _ in 0..1 << inputs {
+            row.push(random.byte_below(1 << outputs));
+            row.push(random.below(count) as u8);
+        }
+        bytes.extend(record(17, &row));
+    }
+    bytes
+}
+
+/// A table that is whole but for its head, about the bounds.
+fn table_about_bounds(random: &mut Random) -> Vec<u8> {
+    let fields = [
+        random.pick(&[0, 0, 1, 1, 2]),
+        random.byte_below(6),
+        random.byte_below(5),
+        random.pick(&[0, 0, 0, 6, 7, 8, 9, 12, 13, 24, 25]),
+    ];
+    let count = random.pick(&[0, 1, 2, 3, 3, 256, 257, 300]);
+    table_of(random, fields, count)
+}
+
+/// Any bytes for a table: a loadable one, or one of them damaged.
+pub fn any_table(random: &mut Random) -> Vec<u8> {
+    let mut bytes = table(random);
+    match random.below(6) {
+        0 | 1 => {}
+        5 => bytes = table_about_bounds(random),
+        2 => damage(random, &mut bytes),
+        3 => {
+            // The head about its bounds.
+            let at = random.below(10);
+            bytes[at] = random.pick(&[0, 1, 2, 3, 4, 5, 6, 7, 16, 17, 18, 24, 25, 255]);
+        }
+        _ => {
+            // One entry about its bounds.
+            let (outputs, count) = (bytes[6], u16::from_le_bytes([bytes[8], bytes[9]]));
+            let last = bytes.len() - 1;
+            let row = 4 + (2usize << bytes[5]);
+            let at = 10 + random.below((last - 9) / row) * row + random.below(row);
+            bytes[at] = random.pick(&[0, (1 << outputs) - 1, 1 << outputs, count as u8, 255]);
+        }
+    }
+    bytes
+}
+
+/// A board record: of a table's shape, with any field out of range at times, or of any bytes.
+pub fn any_board(random: &mut Random, table: &[u8]) -> Board {
+    if random.once_in(8) || table.len() < 10 {
+        return Board {
+            loaded: random.once_in(2),
+            mode: random.byte_below(3),
+            inputs: random.byte_below(6),
+            outputs: random.byte_below(5),
+            count: random.number() as u16 % 300,
+            place: random.number() as u16 % 300,
+            steps: random.number() as u32,
+            deviations: random.number() as u32,
+        };
+    }
+    let count = u16::from_le_bytes([table[8], table[9]]);
+    let steps = match random.below(4) {
+        0 => random.number() as u32 % 4,
+        1 => STEPS_MOST - random.number() as u32 % 3,
+        _ => random.number() as u32 % (STEPS_MOST + 1),
+    };
+    let mut board = Board {
+        loaded: true,
+        mode: table[4],
+        inputs: table[5],
+        outputs: table[6],
+        count,
+        place: random.number() as u16 % count.max(1),
+        steps,
+        deviations: if table[4] == 1 { random.number() as u32 % (steps + 1) } else { 0 },
+    };
+    if random.once_in(2) {
+        match random.below(9) {
+            0 => board.loaded = false,
+            1 => board.mode = random.pick(&[0, 1, 2, 255]),
+            2 => board.inputs = random.pick(&[0, 1, 2, 3, 4, 5, 255]),
+            3 => board.outputs = random.pick(&[0, 1, 2, 3, 4, 255]),
+            4 => board.count = random.pick(&[0, 1, count.wrapping_add(1), 256, 257, 65_535]),
+            5 => {
+                board.place =
+                    random.pick(&[count.wrapping_sub(1), count, count.wrapping_add(1), 65_535])
+            }
+            6 => board.steps = random.pick(&[0, STEPS_MOST, STEPS_MOST + 1, u32::MAX]),
+            7 => board.deviations = random.pick(&[0, 1, steps, steps + 1, u32::MAX]),
+            _ => {}
+        }
+    }
+    board
+}
+
+/// An input about a board's bounds.
+pub fn any_input(random: &mut Random, board: &Board) -> u8 {
+    let bound = 1u8 << board.inputs.min(7);
+    match random.below(8) {
+        0 => bound,
+        1 => bound.wrapping_sub(1),
+        2 => random.byte(),
+        _ => random.byte_below(bound),
+    }
+}

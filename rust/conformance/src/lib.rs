@@ -1,0 +1,28 @@
+//! What the proved library and the reference answer, side by side.
+//!
+//! [`vectors`] runs a file of expected answers against a [`Subject`]; [`generate`] makes sheets,
+//! tables and boards, sound and damaged, for the property tests in `tests/`.
+
+pub mod generate;
+pub mod random;
+pub mod subject;
+pub mod vectors;
+
+pub use random::Random;
+pub use subject::{Library, Reference, Subject};
+
+/// How many cases a property test tries: CASES, or the number given.
+pub fn cases(otherwise: u64) -> u64 {
+    match std::env::var("CASES") {
+        Ok(number) => number.parse().expect("CASES is a number"),
+        Err(_) => otherwise,
+    }
+}
+
+/// The seed of a property test: SEED, or 1.
+pub fn seed() -> u64 {
+    match std::env::var("SEED") {
+        Ok(number) => number.parse().expect("SEED is a number"),
+        Err(_) => 1,
+    }
+}

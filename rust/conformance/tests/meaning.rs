@@ -1,0 +1,180 @@
+//! The reference against the paper's own words, on small sheets: which outputs are allowed by
+//! ways of answering n further inputs, and the guard's outputs by all plans written out, each with
+//! what it earns added over all words. Neither rounds nor values play a part.
+
+use std::collections::HashMap;
+
+use conformance::generate::{self, Shape};
+use conformance::{cases, seed, Random};
+use reference::{Board, Kept, Product, Sheet, Tuple};
+
+/// The most product states of a sheet that is tried: after as many inputs nothing changes.
+const STATES: usize = 40;
+
+/// A point of a sheet's runs, with what is already known about surviving.
+struct Game<'a> {
+    sheet: &'a Sheet,
+    known: HashMap<(Tuple, usize), bool>,
+}
+
+impl Game<'_> {
+    fn inputs(&self) -> std::ops::Range<u8> {
+        0..1 << self.sheet.inputs
+    }
+
+    fn outputs(&self) -> std::ops::Range<u8> {
+        0..1 << self.sheet.outputs
+    }
+
+    /// Whether some way of answering any n further inputs, as they come, breaks nothing.
+    fn survives(&mut self, at: Tuple, n: usize) -> bool {
+        if n == 0 {
+            return true;
+        }
+        if let Some(&known) = self.known.get(&(at, n)) {
+            return known;
+        }
+        let survived = self.inputs().all(|input| {
+            self.outputs().any(|output| {
+                let step = self.sheet.step(&at, input, output);
+                step.is_some_and(|(next, _)| self.survives(next, n - 1))
+            })
+        });
+        self.known.insert((at, n), survived);
+        survived
+    }
+
+    /// The step of an allowed output, and its reward.
+    fn allowed(&mut self, at: Tuple, input: u8, output: u8) -> Option<(Tuple, u64)> {
+        let (next, reward) = self.sheet.step(&at, input, output)?;
+        self.survives(next, STATES).then_some((next, u64::from(reward)))
+    }
+
+    /// What a plan earns, or nothing if one of its outputs is not allowed. The plan gives an output
+    /// for each string of inputs that begins with the present one, the shorter ones first.
+    fn earned(&mut self, at: Tuple, present: u8, plan: &[u8]) -> Option<u64> {
+        let inputs = self.inputs().len();
+        let horizon = u32::from(self.sheet.horizon);
+        let mut total = 0;
+        for word in 0..inputs.pow(horizon) {
+            let mut here = at;
+            let mut input = present;
+            // The strings of one length begin at `first`, and this one is `number` further on.
+            let (mut first, mut number) = (0, 0);
+            for step in 0..=horizon {
+                let (next, reward) = self.allowed(here, input, plan[first + number])?;
+                total += reward;
+                here = next;
+                first += inputs.pow(step);
+                input = (word / inputs.pow(step) % inputs) as u8;
+                number = number * inputs + usize::from(input);
+            }
+        }
+        Some(total)
+    }
+
+    /// Of the first moves of the best plans, the highest in the sheet's order.
+    fn best_first_move(&mut self, at: Tuple, present: u8) -> u8 {
+        let inputs = self.inputs().len();
+        let strings: usize = (0..=u32::from(self.sheet.horizon)).map(|n| inputs.pow(n)).sum();
+        let outputs = self.outputs().len();
+        let mut best: Option<(u64, Vec<u8>)> = None;
+        for number in 0..outputs.pow(strings as u32) {
+            let plan: Vec<u8> = (0..strings as u32)
+                .map(|string| (number / outputs.pow(string) % outputs) as u8)
+                .collect();
+            let Some(earned) = self.earned(at, present, &plan) else { continue };
+            match &mut best {
+                Some((most, moves)) if *most == earned => moves.push(plan[0]),
+                Some((most, _)) if *most > earned => {}
+                _ => best = Some((earned, vec![plan[0]])),
+            }
+        }
+        let (_, mut moves) = best.expect("a kept state has a plan");
+        for literal in &self.sheet.literals {
+            if moves.iter().any(|&output| literal.holds(output)) {
+                moves.retain(|&output| literal.holds(output));
+            }
+        }
+        moves.dedup();
+        assert_eq!(moves.len(), 1, "the literals leave one output");
+        moves[0]
+    }
+}
+
+/// A small sheet: at most one input line, so that the plans can be written out.
+fn small_sheet(random: &mut Random) -> Vec<u8> {
+    let small = |shape: &Shape| shape.inputs() <= 1 && shape.outputs <= 2;
+    let shapes: Vec<Shape> = Shape::all().into_iter().filter(small).collect();
+    let shape = random.pick(&shapes);
+    let mut bytes = generate::head(random, shape);
+    // The horizon, so that there are not too many plans: some thousands, and seldom more.
+    let longer = u8::from(random.once_in(12));
+    bytes[7] = match (shape.inputs(), shape.outputs) {
+        (0, _) => random.byte_below(5),
+        (_, 1) => random.byte_below(3 + longer),
+        _ => random.byte_below(2 + longer),
+    };
+    for _ in 0..random.below(4) {
+        let role = match shape.mode {
+            1 => random.byte_below(3),
+            _ => random.byte_below(2),
+        };
+        bytes.extend(match role {
+            0 if random.once_in(2) => generate::game(random, shape, 4),
+            _ => generate::monitor(random, shape, role, 3),
+        });
+    }
+    bytes
+}
+
+#[test]
+fn the_reference_follows_the_paper() {
+    let (mut accepted, mut unrealizable, mut looking) = (0, 0, 0);
+    for case in 0..cases(1_000) {
+        let mut random = Random::new(seed(), case);
+        let bytes = small_sheet(&mut random);
+        let say = || format!("case {case} of seed {}: {bytes:02x?}", seed());
+        let sheet = Sheet::parse(&bytes).expect("in bounds");
+        let Ok(product) = Product::explore(&sheet) else { continue };
+        if product.count() > STATES {
+            continue;
+        }
+        let kept = Kept::by_rounds(&product);
+        let mut game = Game { sheet: &sheet, known: HashMap::new() };
+
+        for state in 0..product.count() {
+            let at = *product.tuple(state);
+            assert_eq!(kept.is_kept(state), game.survives(at, STATES), "{}", say());
+            for input in game.inputs() {
+                for output in game.outputs() {
+                    let by_rounds =
+                        kept.allowed(&product, state, usize::from(input), usize::from(output));
+                    // A state that is not kept has no allowed output.
+                    let by_words = game.allowed(at, input, output).filter(|_| kept.is_kept(state));
+                    let by_rounds = by_rounds.map(|(next, reward)| (*product.tuple(next), reward));
+                    assert_eq!(by_rounds, by_words, "{}", say());
+                }
+            }
+        }
+
+        let Ok(table) = reference::guard_table(&bytes) else {
+            assert!(!game.survives(sheet.first_tuple(), STATES), "{}", say());
+            unrealizable += 1;
+            continue;
+        };
+        accepted += 1;
+        looking += u64::from(sheet.horizon > 0 && product.count() > 1);
+        let mut board = Board::default();
+        board.load(&table).expect("a guard table is loadable");
+        let mut at = sheet.first_tuple();
+        for _ in 0..4 {
+            let input = random.byte_below(1 << sheet.inputs);
+            let output = board.step(&table, input).expect("not refused");
+            assert_eq!(output, game.best_first_move(at, input), "{}", say());
+            at = sheet.step(&at, input, output).expect("an allowed step is unbroken").0;
+        }
+    }
+    println!("{accepted} accepted, {looking} of them looking ahead, {unrealizable} unrealizable");
+    assert!(accepted > 100 && looking > 40 && unrealizable > 40, "too few sheets of a sort");
+}

@@ -1,0 +1,160 @@
+//! The library's calls as they are: one function each, with the numbers of document 01.
+//!
+//! This is the only module with unsafe code, and the only place that knows the signatures. For
+//! each, 0 is "not refused". A slice crosses as a pointer and a length.
+
+use crate::Work;
+
+/// The bytes of a board: loaded (true only for the byte 1), mode, inputs, outputs, then count and
+/// place in two bytes each, steps and deviations in four bytes each, little-endian.
+pub const BOARD_BYTES: usize = 16;
+
+/// The figures that a maker reports: the table's length and its number of states, or zeros.
+pub const FIGURES: usize = 2;
+
+/// Declares the library's functions, and where the library was not found their stand-ins.
+macro_rules! library {
+    ($(fn $name:ident($($argument:ident: $type:ty),* $(,)?) -> $answer:ty;)*) => {
+        #[cfg(guard_library)]
+        extern "C" {
+            $(fn $name($($argument: $type),*) -> $answer;)*
+        }
+        $(
+            #[cfg(not(guard_library))]
+            #[allow(clippy::too_many_arguments)]
+            unsafe fn $name($(_: $type),*) -> $answer {
+                panic!("built without the library: run `rt staticlib ffi` and build again")
+            }
+        )*
+    };
+}
+
+library! {
+    fn hz_make_supervisor(
+        sheet: *const u8, sheet_len: usize,
+        result: *mut u8, result_len: usize,
+        tuples: *mut u8, tuples_len: usize,
+        cells: *mut u16, cells_len: usize,
+        dropped: *mut u16, dropped_len: usize,
+        figures: *mut u64, figures_len: usize,
+    ) -> u32;
+    fn hz_make_guard(
+        sheet: *const u8, sheet_len: usize,
+        result: *mut u8, result_len: usize,
+        tuples: *mut u8, tuples_len: usize,
+        cells: *mut u16, cells_len: usize,
+        dropped: *mut u16, dropped_len: usize,
+        gains: *mut u16, gains_len: usize,
+        bonuses: *mut u16, bonuses_len: usize,
+        values: *mut u64, values_len: usize,
+        next: *mut u64, next_len: usize,
+        choices: *mut u8, choices_len: usize,
+        order: *mut u16, order_len: usize,
+        numbers: *mut u16, numbers_len: usize,
+        figures: *mut u64, figures_len: usize,
+    ) -> u32;
+    fn hz_load(board: *mut u8, board_len: usize, table: *const u8, table_len: usize) -> u32;
+    fn hz_step(
+        board: *mut u8, board_len: usize,
+        table: *const u8, table_len: usize,
+        input: u8,
+    ) -> u32;
+    fn hz_rewind(board: *mut u8, board_len: usize) -> u32;
+    fn hz_unload(board: *mut u8, board_len: usize) -> u32;
+}
+
+// Each call below lends slices that are valid for its length and time; those that the library may
+// write are exclusive, as `&mut` has it, and it keeps none of them.
+
+/// Makes a supervisor table; `work` lends tuples, cells and dropped.
+pub fn make_supervisor(
+    sheet: &[u8],
+    result: &mut [u8],
+    work: &mut Work,
+    figures: &mut [u64; FIGURES],
+) -> u32 {
+    // SAFETY: see above.
+    unsafe {
+        hz_make_supervisor(
+            sheet.as_ptr(),
+            sheet.len(),
+            result.as_mut_ptr(),
+            result.len(),
+            work.tuples.as_mut_ptr(),
+            work.tuples.len(),
+            work.cells.as_mut_ptr(),
+            work.cells.len(),
+            work.dropped.as_mut_ptr(),
+            work.dropped.len(),
+            figures.as_mut_ptr(),
+            figures.len(),
+        )
+    }
+}
+
+/// Makes a guard table; `work` lends all that it has.
+pub fn make_guard(
+    sheet: &[u8],
+    result: &mut [u8],
+    work: &mut Work,
+    figures: &mut [u64; FIGURES],
+) -> u32 {
+    // SAFETY: see above.
+    unsafe {
+        hz_make_guard(
+            sheet.as_ptr(),
+            sheet.len(),
+            result.as_mut_ptr(),
+            result.len(),
+            work.tuples.as_mut_ptr(),
+            work.tuples.len(),
+            work.cells.as_mut_ptr(),
+            work.cells.len(),
+            work.dropped.as_mut_ptr(),
+            work.dropped.len(),
+            work.gains.as_mut_ptr(),
+            work.gains.len(),
+            work.bonuses.as_mut_ptr(),
+            work.bonuses.len(),
+            work.values.as_mut_ptr(),
+            work.values.len(),
+            work.next.as_mut_ptr(),
+            work.next.len(),
+            work.choices.as_mut_ptr(),
+            work.choices.len(),
+            work.order.as_mut_ptr(),
+            work.order.len(),
+            work.numbers.as_mut_ptr(),
+            work.numbers.len(),
+            figures.as_mut_ptr(),
+            figures.len(),
+        )
+    }
+}
+
+/// Loads a table.
+pub fn load(board: &mut [u8; BOARD_BYTES], table: &[u8]) -> u32 {
+    // SAFETY: see above; the board has its fixed length.
+    unsafe { hz_load(board.as_mut_ptr(), board.len(), table.as_ptr(), table.len()) }
+}
+
+/// Steps, and answers the number and the output.
+#[inline]
+pub fn step(board: &mut [u8; BOARD_BYTES], table: &[u8], input: u8) -> (u32, u32) {
+    // SAFETY: see above; the board has its fixed length.
+    let answer =
+        unsafe { hz_step(board.as_mut_ptr(), board.len(), table.as_ptr(), table.len(), input) };
+    (answer & 0xFFFF, answer >> 16)
+}
+
+/// Rewinds.
+pub fn rewind(board: &mut [u8; BOARD_BYTES]) -> u32 {
+    // SAFETY: see above; the board has its fixed length.
+    unsafe { hz_rewind(board.as_mut_ptr(), board.len()) }
+}
+
+/// Unloads.
+pub fn unload(board: &mut [u8; BOARD_BYTES]) -> u32 {
+    // SAFETY: see above; the board has its fixed length.
+    unsafe { hz_unload(board.as_mut_ptr(), board.len()) }
+}

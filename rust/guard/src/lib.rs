@@ -1,0 +1,57 @@
+//! Guard tables made and run by the proved library.
+//!
+//! A *site sheet* says what a guard board must keep at every step (hard monitors), what it would
+//! like (weighted ones) and how far it looks ahead (the horizon). From its bytes
+//! [`Supervisor::make`] works out every output that can still be survived, and [`Guard::make`]
+//! the table that the board runs by: for each state and input the output and the next state.
+//! A [`Board`] loads such a table and answers one input after another.
+//!
+//! The work is done by functions that were proved to meet their contracts, linked as a static
+//! library; all that this crate adds is types. What is unsafe is in the module [`calls`], where
+//! each function is one call of the library and nothing more.
+//!
+//! # Example
+//!
+//! One line each way. The output must never be on twice running; 3 is earned for each step with
+//! the output equal to the input.
+//!
+#![cfg_attr(guard_library, doc = "```")]
+#![cfg_attr(not(guard_library), doc = "```no_run")]
+//! use guard::{Board, Guard, Refusal, Supervisor, Work};
+//!
+//! let sheet: Vec<u8> = [
+//!     &[0x06, 0, 1, 0, 0, 1, 1, 1, 0, 0][..], // controller, lines 1 and 1, H = 1, prefers on
+//!     &[0x13, 0, 2, 0, 0, 0, 3, 0, 1, 1, 0, 0, 0, 1, 1, 0, 0, 2, 2, 2, 2, 2, 2], // hard
+//!     &[0x0E, 0, 2, 0, 1, 3, 2, 0, 0, 1, 1, 0, 0, 1, 1, 0, 0, 1], // soft, weight 3
+//! ]
+//! .concat();
+//!
+//! let mut work = Work::new();
+//! let supervisor = Supervisor::make(&sheet, &mut work)?;
+//! assert_eq!(supervisor.states(), 4);
+//! assert!(supervisor.allows(0, 1, 1)); // at the start, input on: on may be given,
+//! assert!(!supervisor.allows(2, 1, 1)); // but not when it was on a step ago
+//!
+//! let guard = Guard::make(&sheet, &mut work)?;
+//! let mut board = Board::new();
+//! board.load(&guard)?;
+//! assert_eq!(board.step(&guard, 1)?, 1);
+//! assert_eq!(board.step(&guard, 1)?, 0);
+//! assert_eq!(board.step(&guard, 2), Err(Refusal::Input)); // one line has no input 2
+//! assert_eq!(board.steps(), 2);
+//! # Ok::<(), Refusal>(())
+//! ```
+
+mod board;
+pub mod calls;
+mod refusal;
+mod tables;
+mod work;
+
+pub use board::{Board, Fields};
+pub use refusal::Refusal;
+pub use tables::{Guard, Made, Supervisor};
+pub use work::Work;
+
+/// Whether this build has the library. Where it is false, every call panics.
+pub const LINKED: bool = cfg!(guard_library);

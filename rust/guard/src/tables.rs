@@ -1,0 +1,176 @@
+use crate::calls::{self, FIGURES};
+use crate::{Refusal, Work};
+
+const STATES_MOST: usize = 256;
+const INPUTS_MOST: usize = 16;
+const HEADER: usize = 4;
+
+/// What a maker wrote into the result memory it was lent.
+#[derive(Clone, Copy, Debug, PartialEq, Eq)]
+pub struct Made {
+    /// The table's bytes, at the start of the memory; the rest is as it was.
+    pub length: usize,
+    /// The table's states.
+    pub states: usize,
+}
+
+fn made(number: u32, figures: [u64; FIGURES]) -> Result<Made, Refusal> {
+    Refusal::check(number)?;
+    Ok(Made { length: figures[0] as usize, states: figures[1] as usize })
+}
+
+/// A supervisor table: for each product state whether it is kept and, for each input, exactly
+/// which outputs can still be survived.
+#[derive(Clone, Debug, PartialEq, Eq, Hash)]
+pub struct Supervisor {
+    bytes: Vec<u8>,
+}
+
+impl Supervisor {
+    /// The length of the longest table.
+    pub const BYTES_MOST: usize = Supervisor::HEAD + STATES_MOST * (HEADER + 1 + INPUTS_MOST);
+    const HEAD: usize = HEADER + 5;
+
+    /// Makes the table of a sheet.
+    pub fn make(sheet: &[u8], work: &mut Work) -> Result<Supervisor, Refusal> {
+        let mut bytes = vec![0; Supervisor::BYTES_MOST];
+        let made = Supervisor::make_into(sheet, &mut bytes, work)?;
+        bytes.truncate(made.length);
+        Ok(Supervisor { bytes })
+    }
+
+    /// Makes the table of a sheet in the caller's memory; a refusal leaves it as it was.
+    pub fn make_into(sheet: &[u8], result: &mut [u8], work: &mut Work) -> Result<Made, Refusal> {
+        let mut figures = [0; FIGURES];
+        made(calls::make_supervisor(sheet, result, work, &mut figures), figures)
+    }
+
+    /// The table.
+    pub fn as_bytes(&self) -> &[u8] {
+        &self.bytes
+    }
+
+    /// The guard's input lines.
+    pub fn inputs(&self) -> u8 {
+        self.bytes[HEADER + 1]
+    }
+
+    /// The output lines.
+    pub fn outputs(&self) -> u8 {
+        self.bytes[HEADER + 2]
+    }
+
+    /// The number of product states.
+    pub fn states(&self) -> usize {
+        usize::from(u16::from_le_bytes([self.bytes[HEADER + 3], self.bytes[HEADER + 4]]))
+    }
+
+    /// Whether the product state is kept.
+    ///
+    /// # Panics
+    /// Where the table has no such state.
+    pub fn is_kept(&self, state: usize) -> bool {
+        self.row(state)[0] == 1
+    }
+
+    /// The outputs allowed in a state at an input, bit o for output o.
+    ///
+    /// # Panics
+    /// Where the table has no such state or input.
+    pub fn mask(&self, state: usize, input: u8) -> u8 {
+        self.row(state)[1 + usize::from(input)]
+    }
+
+    /// Whether an output is allowed in a state at an input.
+    ///
+    /// # Panics
+    /// Where the table has no such state or input.
+    pub fn allows(&self, state: usize, input: u8, output: u8) -> bool {
+        output < 8 && self.mask(state, input) >> output & 1 == 1
+    }
+
+    fn row(&self, state: usize) -> &[u8] {
+        let body = 1 + (1 << self.inputs());
+        let start = Supervisor::HEAD + state * (HEADER + body) + HEADER;
+        &self.bytes[start..start + body]
+    }
+}
+
+impl AsRef<[u8]> for Supervisor {
+    fn as_ref(&self) -> &[u8] {
+        &self.bytes
+    }
+}
+
+/// A guard table: for each guard state and input the output and the next state.
+#[derive(Clone, Debug, PartialEq, Eq, Hash)]
+pub struct Guard {
+    bytes: Vec<u8>,
+}
+
+impl Guard {
+    /// The length of the longest table.
+    pub const BYTES_MOST: usize = Guard::HEAD + STATES_MOST * (HEADER + 2 * INPUTS_MOST);
+    const HEAD: usize = HEADER + 6;
+
+    /// Makes the table of a sheet.
+    pub fn make(sheet: &[u8], work: &mut Work) -> Result<Guard, Refusal> {
+        let mut bytes = vec![0; Guard::BYTES_MOST];
+        let made = Guard::make_into(sheet, &mut bytes, work)?;
+        bytes.truncate(made.length);
+        Ok(Guard { bytes })
+    }
+
+    /// Makes the table of a sheet in the caller's memory; a refusal leaves it as it was.
+    pub fn make_into(sheet: &[u8], result: &mut [u8], work: &mut Work) -> Result<Made, Refusal> {
+        let mut figures = [0; FIGURES];
+        made(calls::make_guard(sheet, result, work, &mut figures), figures)
+    }
+
+    /// The table, as a board loads it.
+    pub fn as_bytes(&self) -> &[u8] {
+        &self.bytes
+    }
+
+    /// Whether the guard corrects a proposal (mode 1) or decides alone (mode 0).
+    pub fn is_shield(&self) -> bool {
+        self.bytes[HEADER] == 1
+    }
+
+    /// The guard's input lines.
+    pub fn inputs(&self) -> u8 {
+        self.bytes[HEADER + 1]
+    }
+
+    /// The output lines.
+    pub fn outputs(&self) -> u8 {
+        self.bytes[HEADER + 2]
+    }
+
+    /// The horizon.
+    pub fn horizon(&self) -> u8 {
+        self.bytes[HEADER + 3]
+    }
+
+    /// The number of guard states.
+    pub fn states(&self) -> usize {
+        usize::from(u16::from_le_bytes([self.bytes[HEADER + 4], self.bytes[HEADER + 5]]))
+    }
+
+    /// The output and the next state for a state and an input.
+    ///
+    /// # Panics
+    /// Where the table has no such state or input.
+    pub fn entry(&self, state: usize, input: u8) -> (u8, usize) {
+        assert!(u32::from(input) < 1 << self.inputs(), "no such input");
+        let row = Guard::HEAD + state * (HEADER + (2 << self.inputs())) + HEADER;
+        let at = row + 2 * usize::from(input);
+        (self.bytes[at], usize::from(self.bytes[at + 1]))
+    }
+}
+
+impl AsRef<[u8]> for Guard {
+    fn as_ref(&self) -> &[u8] {
+        &self.bytes
+    }
+}

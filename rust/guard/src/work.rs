@@ -1,0 +1,91 @@
+/// The work memory that the makers are lent.
+///
+/// It may hold anything when a call begins, and is all zero when one returns: what the call was
+/// lent, over its whole length. A slice may be longer than its constant; a shorter one is refused
+/// ([`Refusal::WorkShort`](crate::Refusal::WorkShort)).
+#[derive(Clone, Debug, PartialEq, Eq)]
+pub struct Work {
+    /// The product states, twelve monitor states each.
+    pub tuples: Vec<u8>,
+    /// For each product state and letter the next state.
+    pub cells: Vec<u16>,
+    /// The round that dropped each product state.
+    pub dropped: Vec<u16>,
+    /// Rewards by product state.
+    pub gains: Vec<u16>,
+    /// Rewards by letter.
+    pub bonuses: Vec<u16>,
+    /// The best of each product state over the steps so far.
+    pub values: Vec<u64>,
+    /// The same for one step more.
+    pub next: Vec<u64>,
+    /// The output chosen for each product state and input.
+    pub choices: Vec<u8>,
+    /// The product states in the order of the guard's.
+    pub order: Vec<u16>,
+    /// The guard's number of each product state.
+    pub numbers: Vec<u16>,
+}
+
+impl Work {
+    pub const TUPLES: usize = 3072;
+    pub const CELLS: usize = 16384;
+    pub const DROPPED: usize = 256;
+    pub const GAINS: usize = 256;
+    pub const BONUSES: usize = 64;
+    pub const VALUES: usize = 256;
+    pub const NEXT: usize = 256;
+    pub const CHOICES: usize = 4096;
+    pub const ORDER: usize = 256;
+    pub const NUMBERS: usize = 256;
+
+    /// As much as both makers need.
+    pub fn new() -> Work {
+        Work {
+            tuples: vec![0; Work::TUPLES],
+            cells: vec![0; Work::CELLS],
+            dropped: vec![0; Work::DROPPED],
+            gains: vec![0; Work::GAINS],
+            bonuses: vec![0; Work::BONUSES],
+            values: vec![0; Work::VALUES],
+            next: vec![0; Work::NEXT],
+            choices: vec![0; Work::CHOICES],
+            order: vec![0; Work::ORDER],
+            numbers: vec![0; Work::NUMBERS],
+        }
+    }
+
+    /// Whether all of it is zero.
+    pub fn is_clear(&self) -> bool {
+        self.is_clear_for_supervisor()
+            && self.gains.iter().all(|&x| x == 0)
+            && self.bonuses.iter().all(|&x| x == 0)
+            && self.values.iter().all(|&x| x == 0)
+            && self.next.iter().all(|&x| x == 0)
+            && self.choices.iter().all(|&x| x == 0)
+            && self.order.iter().all(|&x| x == 0)
+            && self.numbers.iter().all(|&x| x == 0)
+    }
+
+    /// Whether what the making of a supervisor is lent is zero.
+    pub fn is_clear_for_supervisor(&self) -> bool {
+        self.tuples.iter().all(|&x| x == 0)
+            && self.cells.iter().all(|&x| x == 0)
+            && self.dropped.iter().all(|&x| x == 0)
+    }
+}
+
+impl Default for Work {
+    fn default() -> Work {
+        Work::new()
+    }
+}
+
+const _: () = assert!(
+    Work::TUPLES
+        + Work::CHOICES
+        + 2 * (Work::CELLS + Work::DROPPED + Work::GAINS + Work::BONUSES)
+        + 2 * (Work::ORDER + Work::NUMBERS)
+        + 8 * (Work::VALUES + Work::NEXT)
+        <= 65_536
+);

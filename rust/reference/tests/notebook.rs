@@ -1,0 +1,222 @@
+//! Document 01's notebook: sheet A and its listing, P1 to P10, the two counters.
+
+use reference::*;
+
+fn record(kind: u16, body: &[u8]) -> Vec<u8> {
+    let mut bytes = (body.len() as u16).to_le_bytes().to_vec();
+    bytes.extend(kind.to_le_bytes());
+    bytes.extend(body);
+    bytes
+}
+
+fn head(mode: u8, lines_in: u8, horizon: u8, match_weight: u8, literals: &[u8]) -> Vec<u8> {
+    let mut body = vec![mode, lines_in, literals.len() as u8, horizon, match_weight];
+    body.extend(literals);
+    record(1, &body)
+}
+
+fn monitor(role: u8, weight: u8, start: u8, accept: &[u8], rows: &[&[u8]]) -> Vec<u8> {
+    let mut body = vec![role, weight, accept.len() as u8, start];
+    body.extend(accept);
+    rows.iter().for_each(|row| body.extend(*row));
+    record(2, &body)
+}
+
+/// A hard monitor, one line each way: the output is never on twice running.
+fn never_on_twice() -> Vec<u8> {
+    monitor(0, 0, 0, &[1, 1, 0], &[&[0, 0, 1, 1], &[0, 0, 2, 2], &[2, 2, 2, 2]])
+}
+
+/// A monitor that accepts after the letters whose bit is set.
+fn on_letters(role: u8, weight: u8, letters: u8, set: u64) -> Vec<u8> {
+    let row: Vec<u8> = (0..letters).map(|l| (set >> l & 1) as u8).collect();
+    monitor(role, weight, 0, &[0, 1], &[&row, &row])
+}
+
+/// A soft counter that the output line moves on, wrapping round.
+fn counter(states: u8, lines_in: u8, outputs: u8, line: u8) -> Vec<u8> {
+    let rows: Vec<Vec<u8>> = (0..states)
+        .map(|s| {
+            let moves = |letter: u32| (letter >> (lines_in + line) & 1) as u8;
+            (0..1u32 << (lines_in + outputs)).map(|l| (s + moves(l)) % states).collect()
+        })
+        .collect();
+    let rows: Vec<&[u8]> = rows.iter().map(Vec::as_slice).collect();
+    monitor(1, 1, 0, &vec![1; usize::from(states)], &rows)
+}
+
+fn sheet_a() -> Vec<u8> {
+    [head(0, 1, 1, 0, &[0]), never_on_twice(), on_letters(1, 3, 4, 0b1001)].concat()
+}
+
+/// The masks of each state of a supervisor table, and whether it is kept.
+fn masks(table: &[u8]) -> Vec<(bool, Vec<u8>)> {
+    let inputs = 1usize << table[5];
+    table[9..].chunks_exact(5 + inputs).map(|row| (row[4] == 1, row[5..].to_vec())).collect()
+}
+
+#[test]
+fn sheet_a_has_the_bytes_of_the_paper() {
+    let bytes = [
+        &[0x06u8, 0x00, 0x01, 0x00, 0x00, 0x01, 0x01, 0x01, 0x00, 0x00][..],
+        &[0x13, 0x00, 0x02, 0x00, 0x00, 0x00, 0x03, 0x00, 0x01, 0x01, 0x00],
+        &[0x00, 0x00, 0x01, 0x01, 0x00, 0x00, 0x02, 0x02, 0x02, 0x02, 0x02, 0x02],
+        &[0x0E, 0x00, 0x02, 0x00, 0x01, 0x03, 0x02, 0x00, 0x00, 0x01],
+        &[0x01, 0x00, 0x00, 0x01, 0x01, 0x00, 0x00, 0x01],
+    ];
+    assert_eq!(sheet_a(), bytes.concat());
+}
+
+#[test]
+fn listing_of_a() {
+    let text = "states 3 inputs 1 outputs 1 horizon 1\n0: 0>1 1>2\n1: 0>1 1>2\n2: 0>1 0>0\n";
+    assert_eq!(list(&sheet_a()), text);
+}
+
+#[test]
+fn listing_of_what_is_refused_or_too_long() {
+    assert_eq!(list(&[]), "refused 2\n");
+    assert_eq!(list(&[0; SHEET_BYTES_MOST]), "refused 2\n");
+    assert_eq!(list(&[0; SHEET_BYTES_MOST + 1]), "too long\n");
+}
+
+#[test]
+fn p1_states_and_masks_of_a() {
+    let table = supervisor_table(&sheet_a()).unwrap();
+    let both = (true, vec![3, 3]);
+    let off = (true, vec![1, 1]);
+    assert_eq!(masks(&table), [both.clone(), both, off.clone(), off]);
+}
+
+#[test]
+fn p2_scores_of_a() {
+    let sheet = Sheet::parse(&sheet_a()).unwrap();
+    let product = Product::explore(&sheet).unwrap();
+    let kept = Kept::by_rounds(&product);
+    let values = Values::over_horizon(&sheet, &product, &kept);
+    let score = |input, output| values.score(&product, &kept, 0, input, output);
+    assert_eq!([score(0, 0), score(0, 1)], [Some(12), Some(3)]);
+    assert_eq!([score(1, 0), score(1, 1)], [Some(6), Some(9)]);
+}
+
+#[test]
+fn p3_input_on_so_output_on_is_unrealizable() {
+    // Letters 0, 2 and 3: input off, or both on.
+    let sheet = [sheet_a(), on_letters(0, 0, 4, 0b1101)].concat();
+    assert_eq!(supervisor_table(&sheet), Err(Refusal::Unrealizable));
+    assert_eq!(guard_table(&sheet), Err(Refusal::Unrealizable));
+}
+
+#[test]
+fn p4_a_head_alone() {
+    let sheet = head(0, 1, 0, 0, &[0]);
+    assert_eq!(masks(&supervisor_table(&sheet).unwrap()), [(true, vec![3, 3])]);
+    assert_eq!(list(&sheet), "states 1 inputs 1 outputs 1 horizon 0\n0: 1>0 1>0\n");
+}
+
+#[test]
+fn p5_the_start_need_not_accept() {
+    let sheet = [head(0, 1, 0, 0, &[0]), monitor(0, 0, 0, &[0, 1], &[&[1; 4], &[1; 4]])].concat();
+    assert!(supervisor_table(&sheet).is_ok());
+    assert!(guard_table(&sheet).is_ok());
+}
+
+#[test]
+fn p6_the_horizon_changes_the_choice() {
+    let sheet = |horizon| {
+        let four = on_letters(1, 4, 4, 0b0100);
+        let three = on_letters(1, 3, 4, 0b1000);
+        [head(0, 1, horizon, 0, &[0]), never_on_twice(), four, three].concat()
+    };
+    for (horizon, output) in [(0, 1), (1, 0)] {
+        let table = guard_table(&sheet(horizon)).unwrap();
+        let mut board = Board::default();
+        board.load(&table).unwrap();
+        assert_eq!(board.step(&table, 1), Ok(output));
+    }
+    let parsed = Sheet::parse(&sheet(1)).unwrap();
+    let product = Product::explore(&parsed).unwrap();
+    let kept = Kept::by_rounds(&product);
+    let values = Values::over_horizon(&parsed, &product, &kept);
+    assert_eq!(values.score(&product, &kept, 0, 1, 0), Some(7));
+    assert_eq!(values.score(&product, &kept, 0, 1, 1), Some(6));
+}
+
+#[test]
+fn p7_a_shield_counts_its_deviations() {
+    let never = monitor(0, 0, 0, &[1, 1, 0], &[&[0, 1], &[0, 2], &[2, 2]]);
+    let table = guard_table(&[head(1, 0, 0, 1, &[0]), never].concat()).unwrap();
+    let mut board = Board::default();
+    board.load(&table).unwrap();
+    assert_eq!([1; 4].map(|proposal| board.step(&table, proposal)), [Ok(1), Ok(0), Ok(1), Ok(0)]);
+    assert_eq!((board.steps, board.deviations), (4, 2));
+}
+
+#[test]
+fn p8_output_order() {
+    let sheet = Sheet::parse(&head(0, 1, 0, 0, &[0, 9])).unwrap();
+    assert_eq!(sheet.output_order(), [1, 3, 0, 2]);
+}
+
+#[test]
+fn p9_bounds_on_the_horizon() {
+    let made = |lines_in, horizon| guard_table(&head(0, lines_in, horizon, 0, &[0]));
+    assert!(made(4, 6).is_ok());
+    assert_eq!(made(4, 7), Err(Refusal::Horizon));
+    assert!(made(0, 24).is_ok());
+    assert_eq!(made(0, 25), Err(Refusal::Horizon));
+}
+
+#[test]
+fn p10_a_seventh_monitor_of_bad_weight() {
+    let good = on_letters(1, 1, 4, 0);
+    let bad = on_letters(1, 0, 4, 0);
+    let six = [head(0, 1, 0, 0, &[0]), good.repeat(6)].concat();
+    assert!(guard_table(&six).is_ok());
+    assert_eq!(guard_table(&[six.clone(), good].concat()), Err(Refusal::SeventhMonitor));
+    assert_eq!(guard_table(&[six, bad.clone()].concat()), Err(Refusal::SeventhMonitor));
+    let early = [head(0, 1, 0, 0, &[0]), bad].concat();
+    assert_eq!(guard_table(&early), Err(Refusal::Monitor));
+}
+
+#[test]
+fn counters_moved_by_different_lines() {
+    let sheet = |second| {
+        let first = counter(32, 0, 2, 0);
+        [head(0, 0, 0, 0, &[0, 1]), first, counter(second, 0, 2, 1)].concat()
+    };
+    assert_eq!(masks(&supervisor_table(&sheet(8)).unwrap()).len(), 256);
+    assert!(guard_table(&sheet(8)).is_ok());
+    assert_eq!(supervisor_table(&sheet(9)), Err(Refusal::TooManyStates));
+    assert_eq!(guard_table(&sheet(9)), Err(Refusal::TooManyStates));
+}
+
+#[test]
+fn result_memory_one_byte_short() {
+    let table = guard_table(&sheet_a()).unwrap();
+    let mut result = vec![0xA5; table.len() - 1];
+    assert_eq!(make_guard(&sheet_a(), &mut result), Err(Refusal::ResultShort));
+    assert!(result.iter().all(|&b| b == 0xA5));
+    let mut result = vec![0xA5; table.len() + 1];
+    let made = make_guard(&sheet_a(), &mut result).unwrap();
+    assert_eq!((made.length, made.states), (table.len(), 3));
+    assert_eq!(result, [table, vec![0xA5]].concat());
+}
+
+#[test]
+fn a_board_takes_no_step_after_the_millionth() {
+    let table = guard_table(&sheet_a()).unwrap();
+    let mut board = Board::default();
+    board.load(&table).unwrap();
+    for _ in 0..STEPS_MOST {
+        board.step(&table, 0).unwrap();
+    }
+    let before = board;
+    assert_eq!(board.step(&table, 2), Err(Refusal::Spent));
+    assert_eq!(board, before);
+    assert_eq!(board.load(&table), Err(Refusal::Loaded));
+    board.rewind().unwrap();
+    assert_eq!(board.step(&table, 2), Err(Refusal::Input));
+    board.unload().unwrap();
+    assert_eq!(board, Board::default());
+}
