@@ -10,3 +10,4 @@ pub mod Running
 pub mod Demand
 pub mod Written
 pub mod Agree
+pub mod Solved
