@@ -11,3 +11,5 @@ pub mod Demand
 pub mod Written
 pub mod Agree
 pub mod Solved
+pub mod Entered
+pub mod Planned

@@ -1,1 +1,3 @@
 // The guard of a sheet, as a table.
+pub mod gains;
+pub mod table;
