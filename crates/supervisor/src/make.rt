@@ -4,8 +4,8 @@ use crate::solve::solve;
 use crate::table::put_head;
 use crate::table::put_rows;
 use crate::table::table_length;
-use records::clear::clear16;
 use records::clear::clear8;
+use records::clear::clear16;
 use records::numbers::pow2;
 use sheet::layout::Refusal;
 use sheet::layout::Sheet;
@@ -122,7 +122,13 @@ fn make_read(
             if result.len() < length {
                 return Made::Refused(Refusal::ShortResult);
             }
-            put_head(result, sheet.mode, sheet.inputs, sheet.outputs, states as u16);
+            put_head(
+                result,
+                sheet.mode,
+                sheet.inputs,
+                sheet.outputs,
+                states as u16,
+            );
             put_rows(result, cells, dropped, states, inputs, pow2(sheet.outputs));
             Made::Table { length, states }
         }

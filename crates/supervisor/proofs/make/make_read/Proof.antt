@@ -113,8 +113,16 @@ pow2-requires-2 c κs = omega (arith, outputs-low (start (told (judged (c .befor
 put-rows-requires : tie.Need-put-rows-requires
 put-rows-requires c κs = let at = judged (headed c) in
     let fits = start (told at) .pre .0 in
-    (layout-steps fits (solution (told at) .numbering) _ _ (at .before .before .pow2 .ensures) (c .pow22 .ensures) (rooms (solved (told at)) .0),
-      (omega (arith, solution (told at) .numbering .most, rooms (solved (told at)) .1), (solution (told at) .numbering .most, (few-inputs fits (at .before .before .pow2 .ensures), (few-outputs fits (c .pow22 .ensures), omega (arith, at .before .table-length .ensures))))))
+    let numbering = solution (told at) .numbering in
+    let room = rooms (solved (told at)) in
+    let inputs = at .before .before .pow2 .ensures in
+    let outputs = c .pow22 .ensures in (
+      layout-steps fits numbering _ _ inputs outputs (room .0),
+      (
+        omega (arith, numbering .most, room .1),
+        (numbering .most, (few-inputs fits inputs, (few-outputs fits outputs, omega (arith, at .before .table-length .ensures)))),
+      ),
+    )
 
 same-length-7 : tie.Need-same-length-7
 same-length-7 c = search needs

@@ -7,7 +7,16 @@ use borrow.Author.Needs.{needs}
 use Rattle.supervisor.proofs.make.Supervisor.make.Statement.{statement}
 use Rattle.supervisor.proofs.make.Supervisor.make.Tie as tie
 
--- the places that the needs look back to
+-- the places that the promise looks back to
+abbrev cleared-cells : tie.After-clear162 → tie.After-clear16
+cleared-cells c = c .before .before .before .before
+
+abbrev cleared-tuples : tie.After-clear16 → tie.After-clear8
+cleared-tuples c = c .before .before .before .before
+
+abbrev made : tie.After-clear8 → tie.After-make-with
+made c = c .before .before .before .before .before .before .before .before .before .before
+
 abbrev entered : tie.After-make-with → tie.After-shared-slice-known
 entered c = c .before .before .before .before .before .before .before .before .before
 
@@ -37,11 +46,19 @@ same-length-4 c = search needs
 
 returns : tie.Need-returns
 returns c =
-    let made = c .before .before .before .before .before .before .before .before .before .before .before .before .before .before .before .before .before .before .before .before in
-    (supervisor-promise _ _ _ (λ k. omega (arith, entered made .shared-slice-known .given k)) (made .make-with .ensures),
-      (c .before .before .before .before .before .before .before .before .before .before .clear8 .ensures ∙ ap zeros (made .make-with .kept .1 .1 .0),
-      (c .before .before .before .before .before .before .clear16 .ensures ∙ ap zeros (made .make-with .kept .1 .1 .1 .0),
-      c .before .before .clear162 .ensures ∙ ap zeros (made .make-with .kept .1 .1 .1 .1 .0))))
+    let dropped = c .before .before in
+    let cells = cleared-cells dropped in
+    let tuples = cleared-tuples cells in
+    let done = made tuples in (
+      supervisor-promise _ _ _ (λ k. omega (arith, entered done .shared-slice-known .given k)) (done .make-with .ensures),
+      (
+        tuples .clear8 .ensures ∙ ap zeros (done .make-with .kept .1 .1 .0),
+        (
+          cells .clear16 .ensures ∙ ap zeros (done .make-with .kept .1 .1 .1 .0),
+          dropped .clear162 .ensures ∙ ap zeros (done .make-with .kept .1 .1 .1 .1 .0),
+        ),
+      ),
+    )
 
 pub make-spec : {M : Type 1} → statement M
 make-spec =
