@@ -28,14 +28,13 @@ use Rattle.supervisor.specs.Solve.{Solution}
 use Rattle.supervisor.specs.Solving.{inputs-most, outputs-most, letters-most, layout-inputs, layout-outputs}
 use Rattle.supervisor.specs.Making.{Judges}
 use Rattle.supervisor.specs.declared.make.Made.the-variants.{Table, Refused}
-use Rattle.values.specs.Values.{Game, Sized, valueRow, choices}
+use Rattle.values.specs.Values.{Game, Sized, valueRow}
 use Rattle.values.specs.Sizes.{Valued}
 use Rattle.values.specs.Sizes as sizes
 use Rattle.values.specs.Growth.{row-valued}
 use Rattle.values.specs.Leaders.{literalsOf}
 use Rattle.values.specs.Guard.{chosen, follows, guardStates}
-use Rattle.values.specs.Guard as guard
-use Rattle.values.specs.Values as values
+use Rattle.values.specs.Values as vals
 use Rattle.values.specs.Numbered.{stepsOf, Following, Numbered, entry-met, steps-only}
 use Rattle.values.specs.Choices.{choices-following}
 use Rattle.guard.specs.Table.{bonusOf, guardOf, guardCount, guardOver, guardTableOf}
@@ -94,7 +93,7 @@ tuples-in-range {d} ok p k h =
 -- only steps and choices count where chosen outputs lead
 following-steps : (g : Game) (choices : List ℕ) (n : ℕ) → Following g choices n
     → Following (stepsOf (g .cells) (g .inputs) (g .outputs)) choices n
-unfolding follows chosen values.nextOf
+unfolding follows chosen vals.nextOf
 following-steps g choices n f =
     record { states = f .states; steps = f .steps; chosen-room = f .chosen-room; output = f .output; closed = f .closed }
 
@@ -125,7 +124,7 @@ module _ {s : List ℕ} {sheet : Sheet} (fits : Fits s sheet) {n : ℕ} {tuples 
     choices-room = omega (arith, mul-le-mul (p .solution .numbering .most) (counts-low .1))
 
     module _
-        {gains₀ bonuses₀ gains bonuses : List ℕ}
+        (gains₀ bonuses₀ : List ℕ) {gains bonuses : List ℕ}
         (earned : gains ≡ put gains₀ n (λ k. softReward (weightOf (decoded s sheet)) (decoded s sheet) (tupleAt tuples k)))
         (matched : bonuses ≡ put bonuses₀ (inputs * outputs) (λ l. bonusOf (decoded s sheet) (l % inputs) (l / inputs)))
         (gains-room : 256 ≤ length gains₀) (bonuses-room : 64 ≤ length bonuses₀)
@@ -158,7 +157,7 @@ module _ {s : List ℕ} {sheet : Sheet} (fits : Fits s sheet) {n : ℕ} {tuples 
 
         module _ (wide-cells : 16384 ≤ length cells) (wide-dropped : 256 ≤ length dropped)
             (h : ℕ) (far : horizonOk (inputLines (decoded s sheet)) h ≡ true)
-            {values₀ choices₀ values choices : List ℕ} {words : ℕ}
+            (values₀ choices₀ : List ℕ) {values : List ℕ} {words : ℕ}
             (valued : values ≡ valueRow game n values₀ h) (counted : words ≡ inputs ^ h)
             (values-room : 256 ≤ length values₀) (chosen-room : 4096 ≤ length choices₀)
           where
@@ -172,7 +171,7 @@ module _ {s : List ℕ} {sheet : Sheet} (fits : Fits s sheet) {n : ℕ} {tuples 
                 rw (valued, counted)
                 (row-valued game n values₀ (omega (arith, most)) (plan-sized wide-cells wide-dropped) h (plan-words .0) (plan-words .1))
 
-            module _ (chose : choices ≡ values.choices game n (literalsOf (sheet .literals) (sheet .outputs)) values words choices₀) where
+            module _ {choices : List ℕ} (chose : choices ≡ vals.choices game n (literalsOf (sheet .literals) (sheet .outputs)) values words choices₀) where
               -- the choices are those over the horizon
               by-horizon : choices ≡ choicesBy game n (decoded s sheet .literals) h values₀ choices₀
               unfolding literalsOf
@@ -205,7 +204,7 @@ module _ {s : List ℕ} {sheet : Sheet} (fits : Fits s sheet) {n : ℕ} {tuples 
               pub plan-made : {order numbers : List ℕ} {count : ℕ} → n ≤ length order → n ≤ length numbers
                   → Numbered n (guardStates (stepsOf cells inputs outputs) choices n) order numbers count
                   → Planned (decoded s sheet) h (stepsOf cells inputs outputs) choices order numbers n count
-              unfolding guardCount numbered follows chosen values.nextOf
+              unfolding guardCount numbered follows chosen vals.nextOf
               plan-made {order} {numbers} {count} order-room numbers-room done =
                   let states : guardStates (stepsOf cells inputs outputs) choices n ≡ guardOf (decoded s sheet) h =
                   steps-only game choices n
@@ -249,6 +248,14 @@ module _ {s : List ℕ} {sheet : Sheet} (fits : Fits s sheet) {n : ℕ} {tuples 
         → Judges guardTableOf promises.guardStates (decoded s sheet) before (Refused ground.ShortResult) before
     layout-short l = solved-short (p .solution) before refl (omega (arith, size-is))
 
+    -- the table of these entries is the sheet's
+    table-is : tableBy (sheet .mode) (sheet .inputs) (sheet .outputs) (sheet .horizon) count g choices order numbers
+        ≡ guardTableOf (decoded s sheet)
+    unfolding decoded guardTableOf
+    table-is =
+        ap (λ (x : ℕ). tableBy (sheet .mode) x (sheet .outputs) (sheet .horizon) count g choices order numbers) (fits .inputs)
+        ∙ planned .table
+
     -- or it does, and is written
     pub layout-written : size ≤ length before → {after : List ℕ}
         → after ≡ sets before 0 (tableBy (sheet .mode) (sheet .inputs) (sheet .outputs) (sheet .horizon) count g choices order numbers)
@@ -256,10 +263,3 @@ module _ {s : List ℕ} {sheet : Sheet} (fits : Fits s sheet) {n : ℕ} {tuples 
     layout-written l {after} wrote =
         let bytes : after ≡ sets before 0 (guardTableOf (decoded s sheet)) = wrote ∙ ap (λ (t : List ℕ). sets before 0 t) table-is in
         rw (bytes, size-is, states-are) (solved-made (p .solution) before refl (omega (arith, size-is)))
-      where
-        table-is : tableBy (sheet .mode) (sheet .inputs) (sheet .outputs) (sheet .horizon) count g choices order numbers
-            ≡ guardTableOf (decoded s sheet)
-        unfolding decoded guardTableOf
-        table-is =
-            ap (λ (x : ℕ). tableBy (sheet .mode) x (sheet .outputs) (sheet .horizon) count g choices order numbers) (fits .inputs)
-            ∙ planned .table

@@ -31,7 +31,7 @@ pub fn fill_gains(s: &[u8], sheet: Sheet, tuples: &[u8], gains: &mut [u16], n: u
 // The bonus of each letter.
 pub fn fill_bonuses(sheet: Sheet, bonuses: &mut [u16], inputs: usize, outputs: usize)
     requires { ⌜ ((s : List ℕ) × Fits s sheet) ⌝ }
-    requires { ⌜ (1 ≤ inputs) × ((inputs ≤ 16) × ((outputs ≤ 8) × (inputs * outputs ≤ length (now bonuses)))) ⌝ }
+    requires { ⌜ (1 ≤ inputs) × (inputs * outputs ≤ length (now bonuses)) ⌝ }
     ensures { λ _. ⌜ ((s : List ℕ) → now (bonuses .exit) ≡ put (now (bonuses .entry)) (inputs * outputs) (λ l. bonusOf (decoded s sheet) (l % inputs) (l / inputs))) ⌝ }
 {
     let mut l: usize = 0;

@@ -1,0 +1,34 @@
+-- Stores that the table writer makes: an entry, a row, and where a row lies.
+-- Assumes nothing.
+use mathlib.Core.Path.{_≡_, refl, sym, ap, _∙_}
+use mathlib.Core.List.{List, [], _∷_, _++_}
+use Prim.Native.Nat.{ℕ, _+_, _*_, _^_, _≤_, _<_}
+use native.Mathlib.Numerals.{add-one}
+use native.Mathlib.Omega.{arith}
+use lib.ListN.{length, set}
+use lib.Seq.{sets}
+use Rattle.records.specs.Lists.{cat, sets-append}
+use Rattle.records.specs.Cursor.{header}
+use Rattle.records.specs.Layout.{rowLength, tableLength, guardRow}
+use Rattle.records.specs.GuardTable.{rowAt, row-fits}
+
+-- two bytes, one after the other
+pub pair-stored : (d : List ℕ) (at a : ℕ) {b c : ℕ} → b ≡ c → set (set d at a) (at + 1) b ≡ sets d at (a ∷ c ∷ [])
+pair-stored d at a e = rw (add-one, e)
+
+-- a row: its header, then its entries
+pub row-stored : (before : List ℕ) (at lines : ℕ) (out next : ℕ → ℕ) {inputs : ℕ} → inputs ≡ 2 ^ lines → {head after : List ℕ}
+    → head ≡ sets before at (header (2 * inputs) 17) → after ≡ sets head (at + 4) (cat inputs (λ i. out i ∷ next i ∷ []))
+    → after ≡ sets before at (guardRow lines out next)
+unfolding guardRow
+row-stored before at lines out next {inputs} e {head} {after} f g =
+    g
+    ∙ ap (λ (l : List ℕ). sets l (at + 4) (cat inputs (λ i. out i ∷ next i ∷ []))) f
+    ∙ sets-append before at (header (2 * inputs) 17) (cat inputs (λ i. out i ∷ next i ∷ []))
+    ∙ ap (λ (n : ℕ). sets before at (header (2 * n) 17 ++ cat n (λ i. out i ∷ next i ∷ []))) e
+
+-- the row of a state lies inside the table
+pub row-inside : (lines j count : ℕ) {size room : ℕ} → size ≡ rowLength lines → j < count → tableLength lines count ≤ room
+    → 10 + j * size + rowLength lines ≤ room
+unfolding rowAt
+row-inside lines j count e h fits = rw e (omega (arith, row-fits lines j count h))
