@@ -6,6 +6,7 @@ use Prim.Native.Nat.{ℕ, _+_, _*_, _^_, _≤_, _<_}
 use native.Mathlib.Numerals.{add-one}
 use native.Mathlib.Omega.{arith}
 use lib.ListN.{length, set}
+use lib.Pow.{pow-mono}
 use lib.Seq.{sets}
 use Rattle.records.specs.Lists.{cat, sets-append}
 use Rattle.records.specs.Cursor.{header}
@@ -26,6 +27,14 @@ row-stored before at lines out next {inputs} e {head} {after} f g =
     ∙ ap (λ (l : List ℕ). sets l (at + 4) (cat inputs (λ i. out i ∷ next i ∷ []))) f
     ∙ sets-append before at (header (2 * inputs) 17) (cat inputs (λ i. out i ∷ next i ∷ []))
     ∙ ap (λ (n : ℕ). sets before at (header (2 * n) 17 ++ cat n (λ i. out i ∷ next i ∷ []))) e
+
+-- its length, by the number of inputs, which are few
+pub row-size : (lines : ℕ) {inputs : ℕ} → inputs ≡ 2 ^ lines → rowLength lines ≡ 4 + inputs * 2
+unfolding rowLength
+row-size lines e = omega arith
+
+pub inputs-few : (lines : ℕ) {inputs : ℕ} → inputs ≡ 2 ^ lines → lines ≤ 4 → inputs ≤ 16
+inputs-few lines e h = omega (arith, pow-mono {j = 4} h)
 
 -- the row of a state lies inside the table
 pub row-inside : (lines j count : ℕ) {size room : ℕ} → size ≡ rowLength lines → j < count → tableLength lines count ≤ room
