@@ -13,3 +13,4 @@ pub mod Agree
 pub mod Solved
 pub mod Entered
 pub mod Planned
+pub mod Lent

@@ -123,6 +123,10 @@ module _ {s : List ℕ} {sheet : Sheet} (fits : Fits s sheet) {n : ℕ} {tuples 
     pub choices-room : n * inputs ≤ 4096
     choices-room = omega (arith, mul-le-mul (p .solution .numbering .most) (counts-low .1))
 
+    -- the words of a horizon in bounds
+    pub plan-words : (h : ℕ) → horizonOk (inputLines (decoded s sheet)) h ≡ true → (h ≤ 24) × (inputs ^ h ≤ 2 ^ 24)
+    plan-words h far = (horizon-facts _ h far .most, rw ins (words-most (decoded s sheet) h far))
+
     module _
         (gains₀ bonuses₀ : List ℕ) {gains bonuses : List ℕ}
         (earned : gains ≡ put gains₀ n (λ k. softReward (weightOf (decoded s sheet)) (decoded s sheet) (tupleAt tuples k)))
@@ -161,15 +165,12 @@ module _ {s : List ℕ} {sheet : Sheet} (fits : Fits s sheet) {n : ℕ} {tuples 
             (valued : values ≡ valueRow game n values₀ h) (counted : words ≡ inputs ^ h)
             (values-room : 256 ≤ length values₀) (chosen-room : 4096 ≤ length choices₀)
           where
-            -- a horizon in bounds
-            pub plan-words : (h ≤ 24) × (inputs ^ h ≤ 2 ^ 24)
-            plan-words = (horizon-facts _ h far .most, rw ins (words-most (decoded s sheet) h far))
-
             -- values fit
             pub plan-valued : Valued n values words
             plan-valued =
                 rw (valued, counted)
-                (row-valued game n values₀ (omega (arith, most)) (plan-sized wide-cells wide-dropped) h (plan-words .0) (plan-words .1))
+                (row-valued game n values₀ (omega (arith, most)) (plan-sized wide-cells wide-dropped) h (plan-words h far .0)
+                (plan-words h far .1))
 
             module _ {choices : List ℕ} (chose : choices ≡ vals.choices game n (literalsOf (sheet .literals) (sheet .outputs)) values words choices₀) where
               -- the choices are those over the horizon

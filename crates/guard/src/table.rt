@@ -18,14 +18,7 @@ ghost use Rattle.values.specs.Numbered.{stepsOf};
 ghost use Rattle.guard.specs.Entered.{entryBy, rowBy, Entered, Tabled};
 
 // The head, at the start of the result.
-pub fn put_head(
-    result: &mut [u8],
-    mode: u8,
-    inputs: u8,
-    outputs: u8,
-    horizon: u8,
-    count: u16,
-)
+pub fn put_head(result: &mut [u8], mode: u8, inputs: u8, outputs: u8, horizon: u8, count: u16)
     requires { ⌜ 10 ≤ length (now result) ⌝ }
     ensures { λ _. ⌜ now (result .exit) ≡ sets (now (result .entry)) 0 (header 6 16 ++ (mode ∷ inputs ∷ outputs ∷ horizon ∷ u16Bytes count)) ⌝ }
 {
@@ -81,7 +74,17 @@ pub fn put_row(
     ensures { λ _. ⌜ now (result .exit) ≡ sets (now (result .entry)) at (rowBy lines (stepsOf (now (cells .entry)) inputs outputs) (now (choices .entry)) (now (numbers .entry)) k) ⌝ }
 {
     put_header(result, at, (2 * inputs) as u16, 17);
-    put_entries(result, at + 4, cells, inputs, outputs, n, choices, numbers, k);
+    put_entries(
+        result,
+        at + 4,
+        cells,
+        inputs,
+        outputs,
+        n,
+        choices,
+        numbers,
+        k,
+    );
 }
 
 // The records of the guard's states, after the head.
