@@ -1,44 +1,42 @@
 -- Work memory that holds a sheet's table of steps in its first parts gives the sheet's values, choices, guard states and table,
 -- whatever else it holds.
 -- Assumes nothing.
-use mathlib.Core.Path.{_≡_, refl, sym, ap, ap₂, _∙_, subst₃}
-use mathlib.Core.Bool.{Bool, true, false, cond, not}
+use mathlib.Core.Path.{_≡_, refl, sym, ap, ap₂, _∙_, subst, subst₃}
+use mathlib.Core.Bool.{Bool, true, cond, not}
 use mathlib.Core.List.{List, [], _∷_, _++_}
 use Prim.Native.Nat.{ℕ, zero, suc, _+_, _*_, _^_, _/_, _%_, _≤_, _<_}
 use native.Mathlib.Omega.{arith}
-use native.Mathlib.Nat.{mod-add-div}
+use native.Mathlib.Nat.{mod-lt, div-lt-iff-lt-mul, div-add-mod'}
 use lib.Dec.{ltb, eqb}
 use lib.ListN.{length, getD, length-replicate}
 use borrow.Author.Tests.{ltb-true, eqb-false, not-true}
 use Rattle.records.specs.Tests.{by-test, and-left}
 use Rattle.records.specs.Limits.{maxStates}
 use Rattle.records.specs.Bounded.{sum-cong, top-cong}
-use Rattle.records.specs.Lists.{cat-ext, getD-tab, getD-put-front}
+use Rattle.records.specs.Lists.{cat-ext, getD-put-front}
 use Rattle.records.specs.Numbers.{zeros, u16Bytes}
 use Rattle.records.specs.Cursor.{header}
 use Rattle.records.specs.Layout.{entryWidth, guardRow, guardTable}
-use Rattle.sheet.specs.Decoded.{Decoded, inputLines}
-use Rattle.product.specs.Step.{inputsOf, outputsOf, softReward, weightOf}
-use Rattle.product.specs.States.{lettersOf}
-use Rattle.product.specs.Numbered.{stateCount, stateOf}
-use Rattle.game.specs.Numbering.{Reach, met, meet, visit, explore, explore-reached, find}
-use Rattle.game.specs.Reachable.{letter-low, input-low, output-low}
+use Rattle.sheet.specs.Decoded.{Decoded}
+use Rattle.product.specs.Step.{inputsOf, outputsOf}
+use Rattle.product.specs.Numbered.{stateCount}
+use Rattle.product.specs.NumberedLaws.{some-state}
+use Rattle.game.specs.Numbering.{Reach, here, there, met, meet, visit, explore, explore-reached, find}
+use Rattle.game.specs.Reachable.{letter-low}
 use Rattle.game.specs.Choice.{choose-cong}
 use Rattle.rounds.specs.Rounds.{Steps, isBroken, cellAt, isIn, leadsIn}
 use Rattle.rounds.specs.Cells.{cell-in}
 use Rattle.rounds.specs.Agree.{in-agree, leads-agree}
-use Rattle.supervisor.specs.Table.{cellsOf, droppedOf}
-use Rattle.supervisor.specs.Entries.{sheet-steps}
-use Rattle.supervisor.specs.Solve.{Solution}
-use Rattle.supervisor.specs.Solving.{cells-agree}
+use Rattle.supervisor.specs.Table.{droppedOf}
+use Rattle.supervisor.specs.Entries.{sheet-steps, some-letter}
 use Rattle.values.specs.Order.{rank}
 use Rattle.values.specs.Values.{Game, mayGive, nextOf, earns, scoreOf, worth, valueRow, choiceOf, choices}
 use Rattle.values.specs.Guard.{chosen, follows, guardStates, guardNumber}
 use Rattle.guard.specs.Table as table
-use Rattle.guard.specs.Table.{gainsOf, bonusOf, bonusesOf, gameOf, valuesOf, choicesOf, guardOf, guardCount, outputOf, guardOver}
-use Rattle.guard.specs.Playing.{Inside}
+use Rattle.guard.specs.Table.{gameOf, valuesOf, choicesOf, guardOf, guardCount, outputOf}
+use Rattle.guard.specs.Playing.{Inside, may-is}
 use Rattle.guard.specs.Best.{chosen-at}
-use Rattle.guard.specs.Reaching.{chosen-leads, met-inside, guard-inside}
+use Rattle.guard.specs.Reaching.{chosen-leads, follows-inside, met-inside, guard-inside}
 
 -- ---- numbering: only the steps of the states that are met count
 
@@ -171,9 +169,19 @@ pub record SameGuard (d : Decoded) (h n : ℕ) (g : Game) (memory others : List 
   pub values : (k : ℕ) → k < n → getD (valueRow g n memory h) k 0 ≡ getD (valuesOf d h) k 0
   pub choices : (k i : ℕ) → k < n → i < g .inputs
       → chosen g (choicesBy g n (d .literals) h memory others) k i ≡ chosen (gameOf d) (choicesOf d h) k i
+  pub entries : (at : ℕ) → at < n * g .inputs
+      → getD (choicesBy g n (d .literals) h memory others) at 0 ≡ getD (choicesOf d h) at 0
+  -- each input of a state that is in has an output that may be given
+  pub live : (k i : ℕ) → k < n → isIn (g .dropped) k ≡ true → i < g .inputs
+      → (o : ℕ) × (o < g .outputs) × (mayGive g k i o ≡ true)
+  -- chosen outputs meet none but the n states
+  pub closed : (k : ℕ)
+      → Reach ℕ (g .inputs) (λ q i. true) (λ q i. follows g (choicesBy g n (d .literals) h memory others) q i) 0 k → k < n
   pub states : guardStates g (choicesBy g n (d .literals) h memory others) n ≡ guardOf d h
   pub out : (j i : ℕ) → j < guardCount d h → i < g .inputs
       → chosen g (choicesBy g n (d .literals) h memory others) (getD (guardOf d h) j 0) i ≡ outputOf d h j i
+  pub among : (j i : ℕ) → j < guardCount d h → i < g .inputs
+      → follows g (choicesBy g n (d .literals) h memory others) (getD (guardOf d h) j 0) i < n
   pub next : (j i : ℕ) → j < guardCount d h → i < g .inputs
       → find ℕ eqb (follows g (choicesBy g n (d .literals) h memory others) (getD (guardOf d h) j 0) i) (guardOf d h) ≡ table.nextOf d h j i
 
@@ -224,14 +232,56 @@ module _ (d : Decoded) (fits : stateCount d ≤ maxStates) (start : isIn (droppe
           sym (explore-cong ℕ eqb (inputsOf d) (λ k i. true) (λ k i. follows (gameOf d) (choicesOf d h) k i) _ 0
           (λ k r i hi. same-follows k i (met-inside d fits h start k r) hi) (stateCount d))
 
+      same-entries : (at : ℕ) → at < stateCount d * inputsOf d
+          → getD (choicesOf d h) at 0
+          ≡ getD (choicesBy (held (gameOf d) cells dropped gains bonuses) (stateCount d) (d .literals) h memory others) at 0
+      unfolding chosen gameOf
+      same-entries at l =
+          let some : 0 < inputsOf d = some-letter (stateCount d) (inputsOf d) at l in
+          subst (λ (x : ℕ). getD (choicesOf d h) x 0
+          ≡ getD (choicesBy (held (gameOf d) cells dropped gains bonuses) (stateCount d) (d .literals) h memory others) x 0)
+          (div-add-mod' at (inputsOf d))
+          (same-chosen (at / inputsOf d) (at % inputsOf d) (div-lt-iff-lt-mul some .1 l) (mod-lt at some))
+
+      same-live : (k i : ℕ) → k < stateCount d → isIn dropped k ≡ true → i < inputsOf d
+          → (o : ℕ) × (o < outputsOf d) × (mayGive (held (gameOf d) cells dropped gains bonuses) k i o ≡ true)
+      unfolding gameOf
+      same-live k i hk e hi =
+          let q : Inside d k =
+          record { low = hk; kept = in-agree (stateCount d) (droppedOf d) dropped (holds .dropped-are) k hk ∙ e } in
+          let o : ℕ = chosen (gameOf d) (choicesOf d h) k i in
+          let l = chosen-leads d fits h k i q hi in (
+            o,
+            l .low,
+            sym (may-agree (gameOf d) (stateCount d) game-steps cells dropped gains bonuses holds k i o hk hi (l .low))
+            ∙ may-is d fits k i o hk hi (l .low) ∙ l .pass,
+          )
+
+      same-closed : (k : ℕ)
+          → Reach ℕ (inputsOf d) (λ q i. true)
+          (λ q i. follows (held (gameOf d) cells dropped gains bonuses)
+          (choicesBy (held (gameOf d) cells dropped gains bonuses) (stateCount d) (d .literals) h memory others) q i) 0 k
+          → Inside d k
+      same-closed k here = record { low = some-state d; kept = start }
+      same-closed k (there {s = q} i r hi t) =
+          let before : Inside d q = same-closed q r in
+          subst (Inside d) (same-follows q i before hi) (follows-inside d fits h q i before hi)
+
       same-guard : SameGuard d h (stateCount d) (held (gameOf d) cells dropped gains bonuses) memory others
       unfolding gameOf outputOf table.nextOf guardNumber guardOf
       same-guard =
           record {
             values = λ k hk. sym (same-values k hk);
             choices = λ k i hk hi. sym (same-chosen k i hk hi);
+            entries = λ at l. sym (same-entries at l);
+            live = same-live;
+            closed = λ k r. same-closed k r .low;
             states = same-states;
             out = λ j i hj hi. sym (same-chosen (getD (guardOf d h) j 0) i (guard-inside d fits h start j hj .low) hi);
+            among = λ j i hj hi.
+                let q = guard-inside d fits h start j hj in
+                subst (λ (k : ℕ). k < stateCount d) (same-follows (getD (guardOf d h) j 0) i q hi)
+                (follows-inside d fits h (getD (guardOf d h) j 0) i q hi .low);
             next = λ j i hj hi.
                 ap (λ (k : ℕ). find ℕ eqb k (guardOf d h))
                 (sym (same-follows (getD (guardOf d h) j 0) i (guard-inside d fits h start j hj) hi));

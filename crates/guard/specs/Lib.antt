@@ -10,3 +10,7 @@ pub mod Running
 pub mod Demand
 pub mod Written
 pub mod Agree
+pub mod Solved
+pub mod Entered
+pub mod Planned
+pub mod Lent

@@ -1,1 +1,4 @@
 // The guard of a sheet, as a table.
+pub mod gains;
+pub mod make;
+pub mod table;
