@@ -8,3 +8,4 @@ pub mod Growth
 pub mod Leaders
 pub mod Numbered
 pub mod Choices
+pub mod Examples

@@ -151,16 +151,19 @@ onto n f low once m inside = by-test (any n (λ j. eqb (f j) m)) hit missed
     missed : any n (λ j. eqb (f j) m) ≡ false → (j : ℕ) × (j < n) × (f j ≡ m)
     missed e =
         let none : (j : ℕ) → j < n → f j ≡ m → ⊥ = λ j h. eqb-false _ _ (any-not n (λ i. eqb (f i) m) e j h) in
-        absurd (omega (arith, pigeonhole (suc n) n with-m
-        (λ j h. cases-suc j n h (λ l. rw (before j l) (low j l)) (λ l. rw (last j l) inside))
-        (λ a b ha hb s.
-        cases-suc a n ha
-        (λ la. cases-suc b n hb
-        (λ lb. same a b la lb (sym (before a la) ∙ s ∙ before b lb))
-        (λ lb. absurd (none a la (sym (before a la) ∙ s ∙ last b lb))))
-        (λ la. cases-suc b n hb
-        (λ lb. absurd (none b lb (sym (before b lb) ∙ sym s ∙ last a la)))
-        (λ lb. omega arith)))))
+        absurd (omega (
+          arith,
+          pigeonhole (suc n) n with-m
+              (λ j h. cases-suc j n h (λ l. rw (before j l) (low j l)) (λ l. rw (last j l) inside))
+              (λ a b ha hb s.
+              cases-suc a n ha
+              (λ la. cases-suc b n hb
+              (λ lb. same a b la lb (sym (before a la) ∙ s ∙ before b lb))
+              (λ lb. absurd (none a la (sym (before a la) ∙ s ∙ last b lb))))
+              (λ la. cases-suc b n hb
+              (λ lb. absurd (none b lb (sym (before b lb) ∙ sym s ∙ last a la)))
+              (λ lb. omega arith))),
+        ))
 
 -- a literal tells its line's bit
 holds-bit : (literal o q : ℕ) → holds literal o ≡ holds literal q → o / 2 ^ (literal % 8) % 2 ≡ q / 2 ^ (literal % 8) % 2

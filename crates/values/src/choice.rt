@@ -36,7 +36,12 @@ impl Leader {
     pub fn none() -> Leader
         ensures { λ r. ⌜ r ≡ noLeader ⌝ }
     {
-        Leader { found: false, output: 0, score: 0, rank: 0 }
+        Leader {
+            found: false,
+            output: 0,
+            score: 0,
+            rank: 0,
+        }
     }
 
     // The leader after a candidate has been compared with it.
@@ -48,7 +53,12 @@ impl Leader {
                 return self;
             }
         }
-        Leader { found: true, output: output, score: score, rank: rank }
+        Leader {
+            found: true,
+            output: output,
+            score: score,
+            rank: rank,
+        }
     }
 }
 
@@ -110,8 +120,18 @@ pub fn fill_choices(
     let mut at: usize = 0;
     while at < n * inputs {
         chosen[at] = choose_output(
-            cells, dropped, gains, bonuses, inputs, outputs, literals, count, values, factor,
-            at / inputs, at % inputs,
+            cells,
+            dropped,
+            gains,
+            bonuses,
+            inputs,
+            outputs,
+            literals,
+            count,
+            values,
+            factor,
+            at / inputs,
+            at % inputs,
         );
         at += 1;
     }

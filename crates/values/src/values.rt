@@ -87,7 +87,10 @@ pub fn best_score(
     while o < outputs {
         if may_give(cells, dropped, inputs, outputs, k, i, o) {
             let to = next_of(cells, inputs, outputs, k, i, o);
-            best = larger(best, score_of(gains, bonuses, values, factor, to, i + inputs * o));
+            best = larger(
+                best,
+                score_of(gains, bonuses, values, factor, to, i + inputs * o),
+            );
         }
         o += 1;
     }
@@ -115,7 +118,18 @@ pub fn worth_of(
     let mut sum: u64 = 0;
     let mut i: usize = 0;
     while i < inputs {
-        sum += best_score(cells, dropped, gains, bonuses, inputs, outputs, values, factor, k, i);
+        sum += best_score(
+            cells,
+            dropped,
+            gains,
+            bonuses,
+            inputs,
+            outputs,
+            values,
+            factor,
+            k,
+            i,
+        );
         i += 1;
     }
     sum
@@ -141,7 +155,17 @@ pub fn value_round(
 {
     let mut k: usize = 0;
     while k < n {
-        next[k] = worth_of(cells, dropped, gains, bonuses, inputs, outputs, values, factor, k);
+        next[k] = worth_of(
+            cells,
+            dropped,
+            gains,
+            bonuses,
+            inputs,
+            outputs,
+            values,
+            factor,
+            k,
+        );
         k += 1;
     }
 }
@@ -194,7 +218,16 @@ pub fn value_rows(
     let mut p: u8 = 0;
     while p < horizon {
         value_round(
-            cells, dropped, gains, bonuses, inputs, outputs, n, values, next, factor,
+            cells,
+            dropped,
+            gains,
+            bonuses,
+            inputs,
+            outputs,
+            n,
+            values,
+            next,
+            factor,
         );
         copy_row(values, next, n);
         factor *= inputs as u64;

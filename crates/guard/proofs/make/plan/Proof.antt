@@ -54,10 +54,13 @@ value-rows-requires : tie.Need-value-rows-requires
 value-rows-requires c κs = let at = matched (c .before .before .before) in
     let s = entry at in
     let most = s .pre .1 .0 .solution .numbering .most in
-    let long = s .pre .1 .1 .1 in
-    (sized at,
-      ((omega (arith, most, long .values), omega (arith, most, long .next)),
-      plan-words (s .pre .0) (s .pre .1 .0) (s .args .inputs) (s .args .outputs) (s .pre .1 .1 .0 .0) (s .pre .1 .1 .0 .1 .0) (s .args .horizon) (s .pre .1 .1 .0 .1 .1)))
+    let long = s .pre .1 .1 .1 in (
+      sized at,
+      (
+        (omega (arith, most, long .values), omega (arith, most, long .next)),
+        plan-words (s .pre .0) (s .pre .1 .0) (s .args .inputs) (s .args .outputs) (s .pre .1 .1 .0 .0) (s .pre .1 .1 .0 .1 .0) (s .args .horizon) (s .pre .1 .1 .0 .1 .1),
+      ),
+    )
 
 cast-count : tie.Need-cast-count
 cast-count c = search needs
@@ -65,27 +68,33 @@ cast-count c = search needs
 fill-choices-requires : tie.Need-fill-choices-requires
 fill-choices-requires c κs = let at = valued (c .before .before .before) in
     let s = entry (made at) in
-    let long = s .pre .1 .1 .1 in
-    (sized (made at),
-      (plan-valued (s .pre .0) (s .pre .1 .0) (s .args .inputs) (s .args .outputs) (s .pre .1 .1 .0 .0) (s .pre .1 .1 .0 .1 .0)
-      (s .args .gains .now) (s .args .bonuses .now) (earned (made at .before) .fill-gains .ensures) (made at .fill-bonuses .ensures (s .args .s .now))
-      (long .gains) (long .bonuses) (long .cells) (long .dropped) (s .args .horizon) (s .pre .1 .1 .0 .1 .1)
-      (s .args .values .now) (s .args .choices .now) (at .value-rows .ensures .0) (at .value-rows .ensures .1) (long .values) (long .choices),
-      (outputs-low (s .pre .0),
-      omega (arith, long .choices, choices-room (s .pre .0) (s .pre .1 .0) (s .args .inputs) (s .args .outputs) (s .pre .1 .1 .0 .0) (s .pre .1 .1 .0 .1 .0)))))
+    let long = s .pre .1 .1 .1 in (
+      sized (made at),
+      (
+        plan-valued (s .pre .0) (s .pre .1 .0) (s .args .inputs) (s .args .outputs) (s .pre .1 .1 .0 .0) (s .pre .1 .1 .0 .1 .0)
+            (s .args .gains .now) (s .args .bonuses .now) (earned (made at .before) .fill-gains .ensures) (made at .fill-bonuses .ensures (s .args .s .now))
+            (long .gains) (long .bonuses) (long .cells) (long .dropped) (s .args .horizon) (s .pre .1 .1 .0 .1 .1)
+            (s .args .values .now) (s .args .choices .now) (at .value-rows .ensures .0) (at .value-rows .ensures .1) (long .values) (long .choices),
+        (
+          outputs-low (s .pre .0),
+          omega (arith, long .choices, choices-room (s .pre .0) (s .pre .1 .0) (s .args .inputs) (s .args .outputs) (s .pre .1 .1 .0 .0) (s .pre .1 .1 .0 .1 .0)),
+        ),
+      ),
+    )
 
 guard-states-requires : tie.Need-guard-states-requires
 guard-states-requires c κs = let at = chose (c .before .before) in
     let was = valued (at .before .before .before .before) in
     let s = entry (made was) in
     let long = s .pre .1 .1 .1 in
-    let most = s .pre .1 .0 .solution .numbering .most in
-    (plan-following (s .pre .0) (s .pre .1 .0) (s .args .inputs) (s .args .outputs) (s .pre .1 .1 .0 .0) (s .pre .1 .1 .0 .1 .0)
-      (s .args .gains .now) (s .args .bonuses .now) (earned (made was .before) .fill-gains .ensures) (made was .fill-bonuses .ensures (s .args .s .now))
-      (long .gains) (long .bonuses) (long .cells) (long .dropped) (s .args .horizon) (s .pre .1 .1 .0 .1 .1)
-      (s .args .values .now) (s .args .choices .now) (was .value-rows .ensures .0) (was .value-rows .ensures .1) (long .values) (long .choices)
-      (at .fill-choices .ensures),
-      (omega (arith, most, long .order), omega (arith, most, long .numbers)))
+    let most = s .pre .1 .0 .solution .numbering .most in (
+      plan-following (s .pre .0) (s .pre .1 .0) (s .args .inputs) (s .args .outputs) (s .pre .1 .1 .0 .0) (s .pre .1 .1 .0 .1 .0)
+          (s .args .gains .now) (s .args .bonuses .now) (earned (made was .before) .fill-gains .ensures) (made was .fill-bonuses .ensures (s .args .s .now))
+          (long .gains) (long .bonuses) (long .cells) (long .dropped) (s .args .horizon) (s .pre .1 .1 .0 .1 .1)
+          (s .args .values .now) (s .args .choices .now) (was .value-rows .ensures .0) (was .value-rows .ensures .1) (long .values) (long .choices)
+          (at .fill-choices .ensures),
+      (omega (arith, most, long .order), omega (arith, most, long .numbers)),
+    )
 
 same-length : tie.Need-same-length
 same-length c = earned (matched (valued (chose (c .before .before .before .before .before .before .before) .before .before .before .before) .before .before .before .before) .before) .fill-gains .kept .1 .1 .1 .0

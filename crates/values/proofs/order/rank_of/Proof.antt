@@ -43,13 +43,13 @@ loop-less c = omega arith
 
 loop-again : tie.Need-loop-again Inv-loop μ-loop
 loop-again c = (
-    omega arith,
-    rw rank-more
-        (⊎-elim
-        (λ w. w .1 ∙ rw (said (c .before .holds .ensures) (w .0 .taken), c .before .before .before .loop .inv .1) (omega arith))
-        (λ w. w .1 ∙ rw (said (c .before .holds .ensures) (w .0 .left), c .before .before .before .loop .inv .1) (omega arith))
-        (c .if1 .came)),
-  )
+  omega arith,
+  rw rank-more
+      (⊎-elim
+      (λ w. w .1 ∙ rw (said (c .before .holds .ensures) (w .0 .taken), c .before .before .before .loop .inv .1) (omega arith))
+      (λ w. w .1 ∙ rw (said (c .before .holds .ensures) (w .0 .left), c .before .before .before .loop .inv .1) (omega arith))
+      (c .if1 .came)),
+)
 
 returns : tie.Need-returns Inv-loop μ-loop
 returns c = let e : c .before .loop .j ≡ c .before .before .args .count = omega arith in c .before .loop .inv .1 ∙ rw e

@@ -40,9 +40,9 @@ best-score-requires c κs = (entry (c .before .before .before) .pre, c .loop-tes
 
 add-sum : tie.Need-add-sum Inv-loop μ-loop
 add-sum c = omega (
-      arith,
-      summed-more (entry (turn c .before .before) .pre) (c .before .loop-test .taken) (turn c .loop .inv .1) (c .best-score .ensures) .1,
-    )
+  arith,
+  summed-more (entry (turn c .before .before) .pre) (c .before .loop-test .taken) (turn c .loop .inv .1) (c .best-score .ensures) .1,
+)
 
 add-i : tie.Need-add-i Inv-loop μ-loop
 add-i c = omega arith
@@ -52,9 +52,9 @@ loop-less c = omega arith
 
 loop-again : tie.Need-loop-again Inv-loop μ-loop
 loop-again c = (
-    omega arith,
-    summed-more (entry (turn c .before .before) .pre) (c .before .loop-test .taken) (turn c .loop .inv .1) (c .best-score .ensures) .0,
-  )
+  omega arith,
+  summed-more (entry (turn c .before .before) .pre) (c .before .loop-test .taken) (turn c .loop .inv .1) (c .best-score .ensures) .0,
+)
 
 returns-2 : tie.Need-returns-2 Inv-loop μ-loop
 returns-2 c = let s = entry (c .before .before .before) in
