@@ -254,7 +254,7 @@ module _ (d : Decoded) (fits : stateCount d ≤ maxStates) (start : isIn (droppe
             o,
             l .low,
             sym (may-agree (gameOf d) (stateCount d) game-steps cells dropped gains bonuses holds k i o hk hi (l .low))
-            ∙ may-is d fits k i o hk hi (l .low) ∙ l .pass,
+                ∙ may-is d fits k i o hk hi (l .low) ∙ l .pass,
           )
 
       same-closed : (k : ℕ)

@@ -1,22 +1,22 @@
 -- The board runs the guard's table: each of its calls is the one that the book's machine makes.
 -- Assumes nothing.
 use mathlib.Core.Path.{_≡_, refl, sym, ap, _∙_, subst}
-use mathlib.Core.Bool.{Bool, true, false, cond, not, _&&_, _||_}
+use mathlib.Core.Bool.{true, false, cond}
 use mathlib.Core.List.{List}
 use Prim.Native.Nat.{ℕ, _+_, _-_, _^_, _≤_, _<_}
 use native.Mathlib.Omega.{arith}
-use lib.Dec.{leb, eqb}
-use lib.ListN.{length, getD}
+use lib.Dec.{eqb}
+use lib.ListN.{length}
 use borrow.Author.Tests.{eqb-true, eqb-false, le-leb}
 use Rattle.records.specs.Tests.{by-test, or-left, or-right, and-both}
 use Rattle.records.specs.Limits.{maxStates, maxSteps, linesOk, horizonOk}
 use Rattle.records.specs.GuardTable.{HeadReads, table-head}
 use Rattle.sheet.specs.Decoded as decoded
 use Rattle.sheet.specs.Decoded.{Decoded, HeadOk, HorizonOk, inputLines}
-use Rattle.product.specs.Step.{inputsOf, outputsOf, proposal, differs}
+use Rattle.product.specs.Step.{inputsOf, proposal, differs}
 use Rattle.product.specs.Numbered.{stateCount}
 use Rattle.game.specs.History as history
-use Rattle.game.specs.Book.{Call, load, step, rewind, unload, Answer, give, refuse, deviations}
+use Rattle.game.specs.Book.{Call, load, step, rewind, unload, give, refuse, deviations}
 use Rattle.game.specs.Machine.{RunsTable}
 use Rattle.rounds.specs.Rounds.{isIn}
 use Rattle.supervisor.specs.Table.{droppedOf}
@@ -172,13 +172,13 @@ module _
         let x = load-as b (guardOver d h) _ (laws.load-empty b e (guardOver d h) table-loads) in (
           x .0,
           subst (λ (c : Board). At c 0 0 0) (sym (x .1))
-          (record {
-            live = laws.loaded-live (guardOver d h) table-loads;
-            shows = laws.loaded-shows (guardOver d h);
-            place = refl;
-            steps = refl;
-            deviated = refl;
-          }),
+              (record {
+                live = laws.loaded-live (guardOver d h) table-loads;
+                shows = laws.loaded-shows (guardOver d h);
+                place = refl;
+                steps = refl;
+                deviated = refl;
+              }),
         )
 
     module _ (b : Board) (k n e : ℕ) (s : At b k n e) where
@@ -189,14 +189,14 @@ module _
           let x = rewind-as b _ q in (
             x .0,
             subst (λ (c : Board). At c 0 0 0) (sym (x .1))
-            (record {
-              live = ap (λ (r : Changing). live (r .board)) (sym q)
-                  ∙ laws.stays-live b (s .live) calls.rewind (λ z. let w : _≡_ {A = ℕ} 0 1 = cc in omega arith);
-              shows = laws.run-shows b (guardOver d h) 0 0 0 (s .shows);
-              place = refl;
-              steps = refl;
-              deviated = refl;
-            }),
+                (record {
+                  live = ap (λ (r : Changing). live (r .board)) (sym q)
+                      ∙ laws.stays-live b (s .live) calls.rewind (λ z. let w : _≡_ {A = ℕ} 0 1 = cc in omega arith);
+                  shows = laws.run-shows b (guardOver d h) 0 0 0 (s .shows);
+                  place = refl;
+                  steps = refl;
+                  deviated = refl;
+                }),
           )
 
       unloads : (says b unload ≡ give 0) × (live (after b unload) ≡ false)
@@ -231,14 +231,14 @@ module _
           let x = step-as b (guardOver d h) i _ q in (
             x .0,
             subst (λ (c : Board). At c (nextOf d h k i) (n + 1) (e + strays d i (outputOf d h k i))) (sym (x .1))
-            (record {
-              live = ap (λ (r : Stepping). live (r .board)) (sym q) ∙ laws.step-live b (s .live) (guardOver d h) i;
-              shows = laws.run-shows b (guardOver d h) _ _ _ (s .shows);
-              place = refl;
-              steps = ap (λ (m : ℕ). m + 1) (s .steps);
-              deviated = deviated-as d (b .mode) (b .inputs) (b .outputs) (b .deviations) e i (outputOf d h k i)
-                  (s .shows .mode ∙ table-reads .mode-is) lines-are (s .shows .outputs ∙ table-reads .outputs-is) (s .deviated);
-            }),
+                (record {
+                  live = ap (λ (r : Stepping). live (r .board)) (sym q) ∙ laws.step-live b (s .live) (guardOver d h) i;
+                  shows = laws.run-shows b (guardOver d h) _ _ _ (s .shows);
+                  place = refl;
+                  steps = ap (λ (m : ℕ). m + 1) (s .steps);
+                  deviated = deviated-as d (b .mode) (b .inputs) (b .outputs) (b .deviations) e i (outputOf d h k i)
+                      (s .shows .mode ∙ table-reads .mode-is) lines-are (s .shows .outputs ∙ table-reads .outputs-is) (s .deviated);
+                }),
           )
 
     -- the board runs it
