@@ -2,8 +2,8 @@
 -- Assumes nothing.
 use mathlib.Core.Path.{_≡_, ap, _∙_}
 use mathlib.Core.Bool.{Bool, true, false, cond}
-use Prim.Native.Nat.{ℕ, zero, suc, _+_, _-_, _*_, _/_, _%_, _^_, _≤_, _<_}
-use native.Mathlib.Nat.{add-zero, add-div-right, add-mul-div-right, add-mul-mod-self-right, div-eq-of-lt}
+use Prim.Native.Nat.{ℕ, zero, suc, _+_, _-_, _*_, _/_, _%_, _^_, _≤_, _<_, suc-le-suc}
+use native.Mathlib.Nat.{add-zero, add-div-right, add-mul-div-right, add-mul-mod-self-right, div-eq-of-lt, pow-suc, pow-succ', div-one, div-div-eq-div-mul}
 use native.Mathlib.Omega.{arith}
 use lib.Pow.{pow-pos, pow-mono, pow-add}
 use Rattle.records.specs.Bounded.{sum, cases-suc}
@@ -48,3 +48,19 @@ bit-of (suc n) p o h =
 -- from n on they are 0
 pub bit-past : (n : ℕ) (p : ℕ → Bool) (o : ℕ) → n ≤ o → bitAt (bitsOf n p) o ≡ 0
 bit-past n p o h = rw (div-eq-of-lt {n = bitsOf n p} {m = 2 ^ o} (omega (arith, bits-lt n p, pow-mono h)))
+
+-- ---- numbers told apart by their bits
+
+-- a bit of the half is the next bit of the whole
+half-bit : (m o : ℕ) → m / 2 / 2 ^ o ≡ m / 2 ^ suc o
+half-bit m o = rw (pow-succ' 2 o) (div-div-eq-div-mul m 2 (2 ^ o))
+
+-- numbers below 2 ^ n whose bits below n are equal are equal
+pub same-bits : (n a b : ℕ) → a < 2 ^ n → b < 2 ^ n → ((o : ℕ) → o < n → bitAt a o ≡ bitAt b o) → a ≡ b
+same-bits zero a b ha hb e = omega arith
+same-bits (suc n) a b ha hb e =
+    let half : a / 2 ≡ b / 2 =
+    same-bits n (a / 2) (b / 2) (omega (arith, pow-suc 2 n)) (omega (arith, pow-suc 2 n)) (λ o h.
+    rw (half-bit a o, half-bit b o) (e (suc o) (suc-le-suc h))) in
+    let last : a % 2 ≡ b % 2 = simp div-one at (e 0 (omega arith)) in
+    omega arith

@@ -8,7 +8,7 @@ use native.Mathlib.Numerals.{add-one}
 use native.Mathlib.Decide.{decLt}
 use native.Mathlib.Omega.{arith}
 use lib.ListN.{length, getD, set, take, drop, length-append, List·getD-append}
-use lib.Seq.{ext-getD, sets, sets-eq, length-sets, getD-append-add}
+use lib.Seq.{ext-getD, sets, sets-eq, length-sets, getD-append-add, getD-set-other, length-take-le}
 use Rattle.records.specs.Bounded.{cases-suc}
 
 -- ---- a list by index
@@ -104,6 +104,13 @@ put-self [] n = refl
 put-self (x ∷ d) zero = refl
 put-self (x ∷ d) (suc n) = ap (λ (t : List ℕ). x ∷ t) (put-self d n)
 
+-- what is put twice is what was put last
+pub put-put : (d : List ℕ) (n : ℕ) (f g : ℕ → ℕ) → put (put d n f) n g ≡ put d n g
+unfolding put
+put-put [] n f g = refl
+put-put (x ∷ d) zero f g = refl
+put-put (x ∷ d) (suc n) f g = ap (λ (t : List ℕ). g 0 ∷ t) (put-put d n (λ k. f (suc k)) (λ k. g (suc k)))
+
 -- only what f says below n counts
 pub put-ext : (d : List ℕ) (n : ℕ) (f g : ℕ → ℕ) → ((k : ℕ) → k < n → f k ≡ g k) → put d n f ≡ put d n g
 unfolding put
@@ -179,6 +186,31 @@ sets-one d at x = refl
 -- from index 0: the new elements, then the old rest
 pub sets-front {ℓ} : {A : Type ℓ} (d xs : List A) → length xs ≤ length d → sets d 0 xs ≡ xs ++ drop (length xs) d
 sets-front d xs h = sets-eq xs d 0 (omega arith) ∙ rw zero-add
+
+-- nothing before them changes
+pub getD-sets-before {ℓ} : {A : Type ℓ} (d : List A) (at : ℕ) (xs : List A) (i : ℕ) (e : A) → i < at
+    → getD (sets d at xs) i e ≡ getD d i e
+getD-sets-before d at [] i e h = refl
+getD-sets-before d at (x ∷ xs) i e h =
+    getD-sets-before (set d at x) (suc at) xs i e (omega arith) ∙ getD-set-other d at i x e (λ q. omega arith)
+
+-- and they stand there
+pub getD-sets-at {ℓ} : {A : Type ℓ} (d : List A) (at : ℕ) (xs : List A) (j : ℕ) (e : A) → at + length xs ≤ length d → j < length xs
+    → getD (sets d at xs) (at + j) e ≡ getD xs j e
+getD-sets-at {A} d at xs j e room h =
+    let rest : List A = xs ++ drop (at + length xs) d in
+    let size : length (take at d) ≡ at = length-take-le at d (omega arith) in
+    ap (λ (l : List A). getD l (at + j) e) (sets-eq xs d at room ∙ append-assoc (take at d) xs (drop (at + length xs) d))
+    ∙ ap (λ (n : ℕ). getD (take at d ++ rest) (n + j) e) (sym size)
+    ∙ getD-append-add (take at d) rest j e
+    ∙ List·getD-append xs (drop (at + length xs) d) e j h
+
+-- one more element of a table
+pub sets-more {ℓ} : {A : Type ℓ} (d : List A) (at n : ℕ) (f : ℕ → A) → set (sets d at (tab n f)) (at + n) (f n) ≡ sets d at (tab (n + 1) f)
+sets-more d at n f =
+    ap (λ (m : ℕ). set (sets d at (tab n f)) (at + m) (f n)) (sym (length-tab n f))
+    ∙ sets-append d at (tab n f) (f n ∷ [])
+    ∙ ap (sets d at) (sym (tab-snoc n f))
 
 -- ---- a stretch of a list
 

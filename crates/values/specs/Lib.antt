@@ -3,3 +3,8 @@ pub mod Order
 pub mod Values
 pub mod Guard
 pub mod Ranks
+pub mod Sizes
+pub mod Growth
+pub mod Leaders
+pub mod Numbered
+pub mod Choices

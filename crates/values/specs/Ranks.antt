@@ -4,8 +4,8 @@ use mathlib.Core.Path.{_≡_, refl, sym, ap, _∙_}
 use mathlib.Core.Logic.{_↔_}
 use mathlib.Core.Bool.{Bool, true, false, cond}
 use mathlib.Core.List.{List}
-use Prim.Native.Nat.{ℕ, zero, suc, _+_, _-_, _*_, _/_, _%_, _^_, _≤_, _<_, suc-le-suc}
-use native.Mathlib.Nat.{pow-suc, mod-lt, pow-succ', div-one, div-div-eq-div-mul}
+use Prim.Native.Nat.{ℕ, zero, suc, _+_, _-_, _*_, _/_, _%_, _^_, _≤_, _<_}
+use native.Mathlib.Nat.{pow-suc, mod-lt}
 use native.Mathlib.Decide.{decLt}
 use native.Mathlib.Numerals.{add-one}
 use native.Mathlib.Omega.{arith}
@@ -15,24 +15,10 @@ use lib.Pow.{pow-mono}
 use borrow.Author.Tests.{eqb-true, eqb-false, lt-ltb, le-ltb}
 use Rattle.records.specs.Tests.{both-ways, by-test}
 use Rattle.records.specs.Bounded.{cases-suc, any, any-at, any-not}
-use Rattle.records.specs.Bits.{bitAt}
+use Rattle.records.specs.Bits.{same-bits}
 use Rattle.records.specs.Lists.{tab, length-tab, getD-tab}
 use Rattle.game.specs.Pigeonhole.{pigeonhole}
 use Rattle.values.specs.Order.{holds, Higher, rankBy, rank}
-
--- a bit of the half is the next bit of the whole
-half-bit : (m o : ℕ) → m / 2 / 2 ^ o ≡ m / 2 ^ suc o
-half-bit m o = rw (pow-succ' 2 o) (div-div-eq-div-mul m 2 (2 ^ o))
-
--- numbers below 2 ^ n whose bits below n are equal are equal
-pub same-bits : (n a b : ℕ) → a < 2 ^ n → b < 2 ^ n → ((o : ℕ) → o < n → bitAt a o ≡ bitAt b o) → a ≡ b
-same-bits zero a b ha hb e = omega arith
-same-bits (suc n) a b ha hb e =
-    let half : a / 2 ≡ b / 2 =
-    same-bits n (a / 2) (b / 2) (omega (arith, pow-suc 2 n)) (omega (arith, pow-suc 2 n)) (λ o h.
-    rw (half-bit a o, half-bit b o) (e (suc o) (suc-le-suc h))) in
-    let last : a % 2 ≡ b % 2 = simp div-one at (e 0 (omega arith)) in
-    omega arith
 
 -- a truth as a digit
 abbrev digit : Bool → ℕ

@@ -1,0 +1,88 @@
+-- The loop of value iteration: after p turns the row of values is that for p steps.
+-- Assumes nothing.
+use mathlib.Core.Path.{_≡_, refl, sym, ap, _∙_}
+use mathlib.Core.List.{List}
+use Prim.Native.Nat.{ℕ, zero, suc, _+_, _*_, _^_, _≤_, _<_}
+use native.Mathlib.Nat.{pow-zero, pow-suc}
+use native.Mathlib.Numerals.{add-one}
+use native.Mathlib.Omega.{arith}
+use lib.ListN.{length, getD}
+use Rattle.records.specs.Lists.{put, put-put, put-ext, length-put, getD-put-front}
+use Rattle.values.specs.Values.{Game, Sized, worth, valueRow}
+use Rattle.values.specs.Sizes.{Valued}
+use Rattle.values.specs.Growth.{row-none, row-more, length-row, row-over, row-valued, words-mono}
+
+-- `memory` and `spare` are the two rows as the loop found them
+pub record Iterated
+    (g : Game) (n horizon : ℕ) (memory spare values next : List ℕ) (factor p : ℕ) : Type 0
+  where
+    pub within : p ≤ horizon
+    pub row : values ≡ valueRow g n memory p
+    pub words : factor ≡ g .inputs ^ p
+    pub room : length next ≡ length spare
+
+-- what the loop relies on
+pub record Fits (g : Game) (n horizon : ℕ) (memory spare : List ℕ) : Type 0 where
+  pub sized : Sized g n
+  pub rows : n ≤ length memory
+  pub spares : n ≤ length spare
+  pub steps : horizon ≤ 24
+  pub few : g .inputs ^ horizon ≤ 2 ^ 24
+
+-- the row for no steps, whatever stood there
+cleared-rows : (g : Game) (n : ℕ) (memory : List ℕ) (p : ℕ) → valueRow g n (put memory n (λ k. 0)) p ≡ valueRow g n memory p
+unfolding valueRow
+cleared-rows g n memory zero = put-put memory n _ _
+cleared-rows g n memory (suc p) = rw (cleared-rows g n memory p) (put-put memory n _ _)
+
+pub begin : (g : Game) (n horizon : ℕ) (entry : List ℕ) {memory : List ℕ} (spare : List ℕ) → memory ≡ put entry n (λ k. 0)
+    → Iterated g n horizon memory spare memory spare 1 0
+begin g n horizon entry spare e =
+    record {
+      within = omega arith;
+      row = e ∙ sym (put-put entry n (λ k. 0) (λ k. 0)) ∙ ap (λ (m : List ℕ). put m n (λ k. 0)) (sym e) ∙ sym (row-none g n _);
+      words = sym (pow-zero (g .inputs));
+      room = refl;
+    }
+
+module _
+    {g : Game} {n horizon : ℕ} {memory spare values next : List ℕ} {factor p : ℕ}
+    (fits : Fits g n horizon memory spare) (r : Iterated g n horizon memory spare values next factor p)
+  where
+    pub same : length values ≡ length memory
+    same = rw (r .row) (length-row g n memory p)
+
+    pub valued : Valued n values factor
+    valued =
+        rw (r .row, r .words)
+        (row-valued g n memory (fits .rows) (fits .sized) p (omega (arith, r .within, fits .steps))
+        (words-mono g (fits .sized) (r .within) (fits .few)))
+
+    -- a factor more is one of the numbers of words up to the horizon
+    pub words-more : p < horizon → factor * g .inputs ≡ g .inputs ^ (p + 1)
+    words-more h = rw (r .words, add-one) (sym (pow-suc (g .inputs) p))
+
+    pub words-most : p < horizon → factor * g .inputs ≤ 2 ^ 24
+    words-most h = rw (words-more h) (words-mono g (fits .sized) {p = p + 1} (omega arith) (fits .few))
+
+    pub more : {next' values' : List ℕ} → p < horizon
+        → next' ≡ put next n (worth g values factor) → values' ≡ put values n (λ k. getD next' k 0)
+        → Iterated g n horizon memory spare values' next' (factor * g .inputs) (p + 1)
+    more {next'} {values'} h e f =
+        let each : (k : ℕ) → k < n → getD next' k 0 ≡ worth g (valueRow g n memory p) (g .inputs ^ p) k = λ k l.
+        rw (e, ← r .row, ← r .words) (getD-put-front next n _ k 0 l (omega (arith, r .room, fits .spares))) in
+        record {
+          within = omega arith;
+          row = f ∙ put-ext values n _ _ each ∙ rw (r .row, row-over g n memory p, row-more g n memory p);
+          words = words-more h;
+          room = rw (e, length-put) (r .room);
+        }
+
+    -- the row for the horizon, of what stood in memory before it was cleared
+    pub end : (entry : List ℕ) → memory ≡ put entry n (λ k. 0) → horizon ≤ p
+        → (values ≡ valueRow g n entry horizon) × (factor ≡ g .inputs ^ horizon)
+    end entry e h =
+        let last : p ≡ horizon = omega (arith, r .within) in (
+          r .row ∙ rw (last, e) (cleared-rows g n entry horizon),
+          r .words ∙ rw last,
+        )

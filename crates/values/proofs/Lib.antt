@@ -1,0 +1,5 @@
+-- Laws that belong to no one function.
+pub mod Best
+pub mod Iterating
+pub mod Visiting
+pub mod Leading

@@ -1,0 +1,71 @@
+-- `values::order::rank_of`: the rank by the literals before j. Assumes nothing.
+use mathlib.Core.Path.{_≡_, sym, _∙_}
+use mathlib.Core.Logic.{⊎-elim}
+use Prim.Native.Nat.{_-_, _≤_, _<_}
+use native.Mathlib.Omega.{arith}
+use borrow.Author.Needs.{needs}
+use Rattle.records.specs.Tests.{said}
+use Rattle.values.specs.Order.{rankBy}
+use Rattle.values.specs.Ranks.{rank-none, rank-more, rank-small}
+use Rattle.values.proofs.order.rank_of.Statement.{statement}
+use Rattle.values.proofs.order.rank_of.Tie as tie
+
+abbrev Inv-loop : tie.InvT-loop
+Inv-loop count o literals rank₀ j₀ rank j = (j ≤ count) × (rank ≡ rankBy literals j o)
+
+abbrev μ-loop : tie.MeasureT-loop
+μ-loop count o literals rank₀ j₀ rank j = count - j
+
+-- three literals give ranks below 8
+small : (c : tie.At-loop Inv-loop μ-loop) → c .loop .rank < 8
+small c = rank-small _ _ _ _ (c .loop .inv .1) (omega arith)
+
+loop-holds : tie.Need-loop-holds Inv-loop μ-loop
+loop-holds c = (omega arith, sym (rank-none _ _))
+
+mul-rank : tie.Need-mul-rank Inv-loop μ-loop
+mul-rank c = omega (arith, small (c .before))
+
+array-read-holds : tie.Need-array-read-holds Inv-loop μ-loop
+array-read-holds c = omega arith
+
+holds-requires : tie.Need-holds-requires Inv-loop μ-loop
+holds-requires c κs = search needs
+
+add-rank : tie.Need-add-rank Inv-loop μ-loop
+add-rank c = omega (arith, small (c .before .before .before))
+
+add-j : tie.Need-add-j Inv-loop μ-loop
+add-j c = omega arith
+
+loop-less : tie.Need-loop-less Inv-loop μ-loop
+loop-less c = omega arith
+
+loop-again : tie.Need-loop-again Inv-loop μ-loop
+loop-again c = (
+    omega arith,
+    rw rank-more
+        (⊎-elim
+        (λ w. w .1 ∙ rw (said (c .before .holds .ensures) (w .0 .taken), c .before .before .before .loop .inv .1) (omega arith))
+        (λ w. w .1 ∙ rw (said (c .before .holds .ensures) (w .0 .left), c .before .before .before .loop .inv .1) (omega arith))
+        (c .if1 .came)),
+  )
+
+returns : tie.Need-returns Inv-loop μ-loop
+returns c = let e : c .before .loop .j ≡ c .before .before .args .count = omega arith in c .before .loop .inv .1 ∙ rw e
+
+pub rank-of-spec : {M : Type 1} → statement M
+rank-of-spec =
+    tie.close
+    (tie.spec
+    Inv-loop
+    μ-loop
+    loop-holds
+    mul-rank
+    array-read-holds
+    holds-requires
+    add-rank
+    add-j
+    loop-less
+    loop-again
+    returns)

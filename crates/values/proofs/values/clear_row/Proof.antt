@@ -1,0 +1,53 @@
+-- `values::values::clear_row`: the values before k are 0. Assumes nothing.
+use mathlib.Core.Path.{_≡_, sym, _∙_}
+use Prim.Native.Nat.{_-_, _≤_}
+use native.Mathlib.Omega.{arith}
+use borrow.Author.Needs.{needs}
+use Rattle.records.specs.Lists.{put, put-none, put-more, length-put}
+use Rattle.values.proofs.values.clear_row.Statement.{statement}
+use Rattle.values.proofs.values.clear_row.Tie as tie
+
+abbrev Inv-loop : tie.InvT-loop
+Inv-loop values₀ n k₀ values k = (k ≤ n) × (values ≡ put values₀ k (λ j. 0))
+
+abbrev μ-loop : tie.MeasureT-loop
+μ-loop values₀ n k₀ values k = n - k
+
+loop-holds : tie.Need-loop-holds Inv-loop μ-loop
+loop-holds c = (omega arith, sym (put-none _ _))
+
+mul-values : tie.Need-mul-values Inv-loop μ-loop
+mul-values c = search needs
+
+slice-write-values : tie.Need-slice-write-values Inv-loop μ-loop
+slice-write-values c = rw (c .before .loop .inv .1, length-put) (omega arith)
+
+add-k : tie.Need-add-k Inv-loop μ-loop
+add-k c = omega arith
+
+loop-less : tie.Need-loop-less Inv-loop μ-loop
+loop-less c = omega arith
+
+loop-again : tie.Need-loop-again Inv-loop μ-loop
+loop-again c = (omega arith, rw (c .before .loop .inv .1) (put-more _ _ (λ j. 0)))
+
+same-length : tie.Need-same-length Inv-loop μ-loop
+same-length c = rw (c .before .loop .inv .1, length-put)
+
+returns : tie.Need-returns Inv-loop μ-loop
+returns c = let e : c .before .loop .k ≡ c .before .before .args .n = omega arith in c .before .loop .inv .1 ∙ rw e
+
+pub clear-row-spec : {M : Type 1} → statement M
+clear-row-spec =
+    tie.close
+    (tie.spec
+    Inv-loop
+    μ-loop
+    loop-holds
+    mul-values
+    slice-write-values
+    add-k
+    loop-less
+    loop-again
+    same-length
+    returns)

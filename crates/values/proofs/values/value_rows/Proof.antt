@@ -1,0 +1,104 @@
+-- `values::values::value_rows`: after p turns the row for p steps, and the number of words of p inputs. Assumes nothing.
+use mathlib.Core.Path.{_≡_, _∙_}
+use Prim.Native.Nat.{_-_, _≤_}
+use lib.ListN.{length}
+use native.Mathlib.Omega.{arith}
+use Rattle.values.specs.Values.{Game}
+use Rattle.values.specs.Sizes.{gameOf}
+use Rattle.values.proofs.Iterating.{Iterated, Fits, begin, same, valued, words-most, more, end}
+use Rattle.values.proofs.values.value_rows.Statement.{statement}
+use Rattle.values.proofs.values.value_rows.Tie as tie
+
+abbrev Inv-loop : tie.InvT-loop
+Inv-loop cells dropped gains bonuses inputs outputs n values₀ next₀ horizon factor₀ p₀ values next factor p =
+    Iterated (gameOf cells dropped gains bonuses inputs outputs) n horizon values₀ next₀ values next factor p
+
+abbrev μ-loop : tie.MeasureT-loop
+μ-loop cells dropped gains bonuses inputs outputs n values₀ next₀ horizon factor₀ p₀ values next factor p = horizon - p
+
+-- the places: the function's start, the cleared row, and the head of a turn
+abbrev entry : tie.After-clear-row Inv-loop μ-loop → tie.Start Inv-loop μ-loop
+entry c = c .before .before .before .before .before .before .before .before
+
+abbrev cleared : tie.At-loop Inv-loop μ-loop → tie.After-clear-row Inv-loop μ-loop
+cleared c = c .before .before .before
+
+abbrev head : tie.After-copy-row Inv-loop μ-loop → tie.At-loop Inv-loop μ-loop
+head c = c .before .before .before .before .before .before .before .before .before
+
+abbrev game : tie.Start Inv-loop μ-loop → Game
+game s = gameOf (s .args .cells .now) (s .args .dropped .now) (s .args .gains .now) (s .args .bonuses .now) (s .args .inputs) (s .args .outputs)
+
+fits : (c : tie.After-clear-row Inv-loop μ-loop)
+    → Fits (game (entry c)) (entry c .args .n) (entry c .args .horizon) (c .clear-row .last .0) (entry c .args .next .now)
+fits c =
+    let p = entry c .pre in
+    record {
+      sized = p .0;
+      rows = omega (arith, c .clear-row .kept .0, p .1 .0 .0);
+      spares = p .1 .0 .1;
+      steps = p .1 .1 .0;
+      few = p .1 .1 .1;
+    }
+
+spare : (c : tie.At-loop Inv-loop μ-loop) → entry (cleared c) .args .n ≤ length (c .loop .next)
+spare c = omega (arith, c .loop .inv .room, fits (cleared c) .spares)
+
+clear-row-requires : tie.Need-clear-row-requires Inv-loop μ-loop
+clear-row-requires c κs = omega arith
+
+loop-holds : tie.Need-loop-holds Inv-loop μ-loop
+loop-holds c = begin _ _ _ _ _ (c .before .before .clear-row .ensures)
+
+value-round-requires : tie.Need-value-round-requires Inv-loop μ-loop
+value-round-requires c κs = let h = c .before .before .before in
+    let f = fits (cleared h) in
+    (f .sized, (valued f (h .loop .inv), spare h))
+
+copy-row-requires : tie.Need-copy-row-requires Inv-loop μ-loop
+copy-row-requires c κs = let h = c .before .before .before .before .before .before .before .before in
+    let f = fits (cleared h) in (
+      omega (arith, same f (h .loop .inv), f .rows),
+      omega (arith, spare h, c .before .before .before .before .value-round .kept .1 .1 .1 .1 .1 .1 .1 .1 .0),
+    )
+
+mul-factor : tie.Need-mul-factor Inv-loop μ-loop
+mul-factor c = omega (arith, words-most (fits (cleared (head (c .before .before)))) (head (c .before .before) .loop .inv) (c .before .before .before .before .before .before .before .before .before .before .loop-test .taken))
+
+add-p : tie.Need-add-p Inv-loop μ-loop
+add-p c = omega arith
+
+loop-less : tie.Need-loop-less Inv-loop μ-loop
+loop-less c = omega arith
+
+loop-again : tie.Need-loop-again Inv-loop μ-loop
+loop-again c = let h = head (c .before .before) in
+    more (fits (cleared h)) (h .loop .inv) (c .before .before .before .before .before .before .before .before .before .before .loop-test .taken)
+    (c .before .before .before .before .before .before .before .value-round .ensures) (c .before .before .copy-row .ensures)
+
+same-length : tie.Need-same-length Inv-loop μ-loop
+same-length c = same (fits (cleared (c .before))) (c .before .loop .inv) ∙ cleared (c .before) .clear-row .kept .0
+
+same-length-2 : tie.Need-same-length-2 Inv-loop μ-loop
+same-length-2 c = c .before .loop .inv .room
+
+returns : tie.Need-returns Inv-loop μ-loop
+returns c = end (fits (cleared (c .before))) (c .before .loop .inv) _ (cleared (c .before) .clear-row .ensures) (c .loop-test .left)
+
+pub value-rows-spec : {M : Type 1} → statement M
+value-rows-spec =
+    tie.close
+    (tie.spec
+    Inv-loop
+    μ-loop
+    clear-row-requires
+    loop-holds
+    value-round-requires
+    copy-row-requires
+    mul-factor
+    add-p
+    loop-less
+    loop-again
+    same-length
+    same-length-2
+    returns)

@@ -1,0 +1,113 @@
+-- What the code relies on: the table from its slices, a step's place in it, and values and factors that fit 64 bits.
+-- Assumes nothing.
+use mathlib.Core.Path.{_≡_, refl, sym, ap, _∙_}
+use mathlib.Core.Bool.{Bool, true, false, not}
+use mathlib.Core.List.{List}
+use Prim.Native.Nat.{ℕ, _+_, _*_, _^_, _≤_, _<_}
+use native.Mathlib.Nat.{mul-comm}
+use native.Mathlib.Omega.{arith}
+use borrow.Author.Tests.{eqb-false, not-true}
+use lib.Arith.{digits-lt}
+use lib.ListN.{length, getD}
+use Rattle.records.specs.Tests.{and-left, and-right}
+use Rattle.records.specs.Bounded.{top}
+use Rattle.rounds.specs.Rounds.{Steps, brokenCell, isBroken, cellAt, isIn, leadsIn}
+use Rattle.rounds.specs.Cells.{Entered, cell-in}
+use Rattle.values.specs.Values.{Game, Sized, mayGive, nextOf, scoreOf, earns}
+
+-- the table, from its slices and the numbers of inputs and outputs
+abbrev pub gameOf : List ℕ → List ℕ → List ℕ → List ℕ → ℕ → ℕ → Game
+gameOf cells dropped gains bonuses inputs outputs =
+    record {
+      cells = cells;
+      dropped = dropped;
+      gains = gains;
+      bonuses = bonuses;
+      inputs = inputs;
+      outputs = outputs;
+    }
+
+-- values and a factor that stay far below 2 ^ 64: at most 24 steps of at most 2295 for each of 2 ^ 24 words
+pub record Valued (n : ℕ) (values : List ℕ) (factor : ℕ) : Type 0 where
+  pub room : n ≤ length values
+  pub most : (k : ℕ) → k < n → getD values k 0 ≤ 2 ^ 40
+  pub factor-most : factor ≤ 2 ^ 24
+
+-- state k of a table of any number of states, with such values for them
+pub record Ready (g : Game) (values : List ℕ) (factor k : ℕ) : Type 0 where
+  pub states : ℕ
+  pub sized : Sized g states
+  pub valued : Valued states values factor
+  pub state : k < states
+
+-- the score of a step to the state `to` by a letter
+unfoldable pub scoreAt : List ℕ → List ℕ → List ℕ → ℕ → ℕ → ℕ → ℕ
+scoreAt gains bonuses values factor to letter = (getD gains to 0 + getD bonuses letter 0) * factor + getD values to 0
+
+-- and that it can be read and fits
+pub record Scored (gains bonuses values : List ℕ) (factor to letter : ℕ) : Type 0 where
+  pub gains-room : to < length gains
+  pub gain : getD gains to 0 ≤ 1530
+  pub bonuses-room : letter < length bonuses
+  pub bonus : getD bonuses letter 0 ≤ 765
+  pub values-room : to < length values
+  pub value : getD values to 0 ≤ 2 ^ 40
+  pub factor-most : factor ≤ 2 ^ 24
+
+-- the largest score of state k at input i
+abbrev pub bestOf : Game → List ℕ → ℕ → ℕ → ℕ → ℕ
+bestOf g values factor k i = top (g .outputs) (mayGive g k i) (scoreOf g values factor k i)
+
+-- ---- a step of a sized table
+
+-- a cell that leads to a kept state is unbroken
+pub leads-unbroken : (cells dropped : List ℕ) (at : ℕ) → leadsIn cells dropped at ≡ true → getD cells at 0 ≡ brokenCell → ⊥
+unfolding leadsIn
+leads-unbroken cells dropped at e =
+    eqb-false _ _ (not-true _ (and-left (not (isBroken (getD cells at 0))) (isIn dropped (getD cells at 0)) e))
+
+pub leads-kept : (cells dropped : List ℕ) (at : ℕ) → leadsIn cells dropped at ≡ true → isIn dropped (getD cells at 0) ≡ true
+unfolding leadsIn
+leads-kept cells dropped at e = and-right (not (isBroken (getD cells at 0))) (isIn dropped (getD cells at 0)) e
+
+pub steps-of : {g : Game} {n : ℕ} → Sized g n → Steps (g .cells) n (g .inputs) (g .outputs)
+steps-of s = record { rows = s .rows; inside = s .inside }
+
+pub letter-low : {inputs outputs i o : ℕ} → i < inputs → o < outputs → i + inputs * o < inputs * outputs
+letter-low {inputs} {outputs} {i} {o} hi ho = omega (arith, digits-lt ho hi, mul-comm inputs o, mul-comm inputs outputs)
+
+module _ {g : Game} {n : ℕ} (s : Sized g n) where
+  pub entered : {k : ℕ} → k < n → Entered (g .dropped) n k
+  entered h = record { room = s .dropped; state = h }
+
+  -- an output that may be given leads to one of the n states
+  pub next-low : {k i o : ℕ} → k < n → i < g .inputs → o < g .outputs → mayGive g k i o ≡ true → nextOf g k i o < n
+  unfolding mayGive nextOf
+  next-low hk hi ho may = s .inside _ (cell-in (steps-of s) hk hi ho) (leads-unbroken (g .cells) (g .dropped) _ may)
+
+  -- which is kept
+  pub next-kept : (k i o : ℕ) → mayGive g k i o ≡ true → isIn (g .dropped) (nextOf g k i o) ≡ true
+  unfolding mayGive nextOf
+  next-kept k i o may = leads-kept (g .cells) (g .dropped) _ may
+
+  pub scored-at : {values : List ℕ} {factor k i o : ℕ} → Valued n values factor → k < n → i < g .inputs → o < g .outputs
+      → mayGive g k i o ≡ true
+      → Scored (g .gains) (g .bonuses) values factor (nextOf g k i o) (i + g .inputs * o)
+  scored-at {values} {factor} {k} {i} {o} v hk hi ho may =
+      let to : nextOf g k i o < n = next-low hk hi ho may in
+      let letter : i + g .inputs * o < g .inputs * g .outputs = letter-low hi ho in
+      record {
+        gains-room = omega (arith, s .gains);
+        gain = s .gain _ to;
+        bonuses-room = omega (arith, s .bonuses);
+        bonus = s .bonus _ letter;
+        values-room = omega (arith, v .room);
+        value = v .most _ to;
+        factor-most = v .factor-most;
+      }
+
+-- a step's score, read from the state after it and its letter
+pub score-read : (g : Game) (values : List ℕ) (factor k i o : ℕ)
+    → scoreAt (g .gains) (g .bonuses) values factor (nextOf g k i o) (i + g .inputs * o) ≡ scoreOf g values factor k i o
+unfolding scoreAt scoreOf earns
+score-read g values factor k i o = refl
