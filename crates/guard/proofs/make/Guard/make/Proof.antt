@@ -111,17 +111,37 @@ same-length-11 : tie.Need-same-length-11
 same-length-11 c = search needs
 
 returns : tie.Need-returns
-returns c = (guard-promise _ (λ k. omega (arith, entered (made c) .shared-slice-known .given k)) (made c .make-with .ensures),
-      (tuples c .clear8 .ensures ∙ ap zeros (made c .make-with .kept .1 .1 .0),
-      (cells c .clear16 .ensures ∙ ap zeros (made c .make-with .kept .1 .1 .1 .0),
-      (dropped c .clear162 .ensures ∙ ap zeros (made c .make-with .kept .1 .1 .1 .1 .0),
-      (gains c .clear163 .ensures ∙ ap zeros (made c .make-with .kept .1 .1 .1 .1 .1 .0),
-      (bonuses c .clear164 .ensures ∙ ap zeros (made c .make-with .kept .1 .1 .1 .1 .1 .1 .0),
-      (values c .clear64 .ensures ∙ ap zeros (made c .make-with .kept .1 .1 .1 .1 .1 .1 .1 .0),
-      (next c .clear642 .ensures ∙ ap zeros (made c .make-with .kept .1 .1 .1 .1 .1 .1 .1 .1 .0),
-      (choices c .clear82 .ensures ∙ ap zeros (made c .make-with .kept .1 .1 .1 .1 .1 .1 .1 .1 .1 .0),
-      (order c .clear165 .ensures ∙ ap zeros (made c .make-with .kept .1 .1 .1 .1 .1 .1 .1 .1 .1 .1 .0),
-      numbers c .clear166 .ensures ∙ ap zeros (made c .make-with .kept .1 .1 .1 .1 .1 .1 .1 .1 .1 .1 .1 .0)))))))))))
+returns c = (
+  guard-promise _ (λ k. omega (arith, entered (made c) .shared-slice-known .given k)) (made c .make-with .ensures),
+  (
+    tuples c .clear8 .ensures ∙ ap zeros (made c .make-with .kept .1 .1 .0),
+    (
+      cells c .clear16 .ensures ∙ ap zeros (made c .make-with .kept .1 .1 .1 .0),
+      (
+        dropped c .clear162 .ensures ∙ ap zeros (made c .make-with .kept .1 .1 .1 .1 .0),
+        (
+          gains c .clear163 .ensures ∙ ap zeros (made c .make-with .kept .1 .1 .1 .1 .1 .0),
+          (
+            bonuses c .clear164 .ensures ∙ ap zeros (made c .make-with .kept .1 .1 .1 .1 .1 .1 .0),
+            (
+              values c .clear64 .ensures ∙ ap zeros (made c .make-with .kept .1 .1 .1 .1 .1 .1 .1 .0),
+              (
+                next c .clear642 .ensures ∙ ap zeros (made c .make-with .kept .1 .1 .1 .1 .1 .1 .1 .1 .0),
+                (
+                  choices c .clear82 .ensures ∙ ap zeros (made c .make-with .kept .1 .1 .1 .1 .1 .1 .1 .1 .1 .0),
+                  (
+                    order c .clear165 .ensures ∙ ap zeros (made c .make-with .kept .1 .1 .1 .1 .1 .1 .1 .1 .1 .1 .0),
+                    numbers c .clear166 .ensures ∙ ap zeros (made c .make-with .kept .1 .1 .1 .1 .1 .1 .1 .1 .1 .1 .1 .0),
+                  ),
+                ),
+              ),
+            ),
+          ),
+        ),
+      ),
+    ),
+  ),
+)
 
 pub make-spec : {M : Type 1} → statement M
 make-spec =
