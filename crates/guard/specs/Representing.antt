@@ -1,16 +1,14 @@
 -- The guard's states stand for tuples, and its entries for the run book's moves.
 -- Assumes nothing.
-use mathlib.Core.Path.{_≡_, sym, ap, _∙_, subst}
-use mathlib.Core.Bool.{true}
+use mathlib.Core.Path.{_≡_, sym, ap, _∙_}
 use mathlib.Core.List.{List}
 use Prim.Native.Nat.{ℕ, _≤_, _<_}
-use native.Mathlib.Omega.{arith}
-use lib.ListN.{length, getD}
+use lib.ListN.{getD}
 use Rattle.records.specs.Limits.{maxStates}
 use Rattle.records.specs.Lists.{tab, length-tab, getD-tab}
 use Rattle.sheet.specs.Decoded.{Decoded, HeadOk}
 use Rattle.product.specs.Step.{inputsOf, outputsOf, advance, unbroken, reward, firstTuple}
-use Rattle.product.specs.States.{same, Reached}
+use Rattle.product.specs.States.{same}
 use Rattle.product.specs.Numbered.{stateCount, stateOf}
 use Rattle.product.specs.NumberedLaws.{first-state, same-equal, same-self}
 use Rattle.game.specs.Guard as guard

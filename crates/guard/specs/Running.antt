@@ -1,22 +1,22 @@
 -- The board runs the guard's table: each of its calls is the one that the book's machine makes.
 -- Assumes nothing.
 use mathlib.Core.Path.{_≡_, refl, sym, ap, _∙_, subst}
-use mathlib.Core.Bool.{Bool, true, false, cond, not, _&&_, _||_}
+use mathlib.Core.Bool.{true, false, cond}
 use mathlib.Core.List.{List}
 use Prim.Native.Nat.{ℕ, _+_, _-_, _^_, _≤_, _<_}
 use native.Mathlib.Omega.{arith}
-use lib.Dec.{leb, eqb}
-use lib.ListN.{length, getD}
+use lib.Dec.{eqb}
+use lib.ListN.{length}
 use borrow.Author.Tests.{eqb-true, eqb-false, le-leb}
 use Rattle.records.specs.Tests.{by-test, or-left, or-right, and-both}
 use Rattle.records.specs.Limits.{maxStates, maxSteps, linesOk, horizonOk}
 use Rattle.records.specs.GuardTable.{HeadReads, table-head}
 use Rattle.sheet.specs.Decoded as decoded
 use Rattle.sheet.specs.Decoded.{Decoded, HeadOk, HorizonOk, inputLines}
-use Rattle.product.specs.Step.{inputsOf, outputsOf, proposal, differs}
+use Rattle.product.specs.Step.{inputsOf, proposal, differs}
 use Rattle.product.specs.Numbered.{stateCount}
 use Rattle.game.specs.History as history
-use Rattle.game.specs.Book.{Call, load, step, rewind, unload, Answer, give, refuse, deviations}
+use Rattle.game.specs.Book.{Call, load, step, rewind, unload, give, refuse, deviations}
 use Rattle.game.specs.Machine.{RunsTable}
 use Rattle.rounds.specs.Rounds.{isIn}
 use Rattle.supervisor.specs.Table.{droppedOf}

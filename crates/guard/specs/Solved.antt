@@ -1,9 +1,9 @@
 -- What solving a sheet leaves in work memory, with gains and bonuses beside it, is the sheet's table of steps, of the sizes that
 -- the code relies on; and what is made of it is the sheet's guard table.
 -- Assumes nothing.
-use mathlib.Core.Path.{_≡_, refl, sym, ap, ap₂, _∙_, subst}
+use mathlib.Core.Path.{_≡_, refl, sym, ap, ap₂, _∙_}
 use mathlib.Core.Bool.{Bool, true, false}
-use mathlib.Core.List.{List, [], _∷_, _++_}
+use mathlib.Core.List.{List, _∷_, _++_}
 use Prim.Native.Nat.{ℕ, zero, suc, _+_, _-_, _*_, _/_, _%_, _^_, _≤_, _<_}
 use native.Mathlib.Nat.{pow-zero, pow-suc, mul-zero, mul-suc}
 use native.Mathlib.Omega.{arith}

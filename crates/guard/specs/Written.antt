@@ -15,7 +15,7 @@ use Rattle.sheet.specs.Layout.{verdictNumber}
 use Rattle.sheet.specs.Reader.{reading}
 use Rattle.sheet.specs.Promises.{Reads}
 use Rattle.sheet.specs.Laws.{reads, only-sheet}
-use Rattle.supervisor.specs.Making.{sheetOf, madeNumber, madeLength, Answers}
+use Rattle.supervisor.specs.Making.{sheetOf, madeLength, Answers}
 use Rattle.supervisor.specs.Grounds.{start-in}
 use Rattle.supervisor.specs.Judging.{Only, made-says, makes}
 use Rattle.supervisor.specs.declared.make.Made.{Made}

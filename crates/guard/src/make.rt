@@ -1,10 +1,20 @@
-// What the maker of guard tables is put together from: the judgement of its work memory, the plan, and the table written.
+// The maker of guard tables.
 use crate::gains::fill_bonuses;
 use crate::gains::fill_gains;
 use crate::table::put_head;
 use crate::table::put_rows;
+use records::clear::clear8;
+use records::clear::clear16;
+use records::clear::clear64;
+use records::layout::Layout;
+use records::numbers::pow2;
+use sheet::layout::Refusal;
 use sheet::layout::Sheet;
+use sheet::layout::Verdict;
+use sheet::reader::read;
 use supervisor::make::Made;
+use supervisor::solve::Solved;
+use supervisor::solve::solve;
 use values::choice::fill_choices;
 use values::guard::guard_states;
 use values::values::value_rows;
@@ -14,11 +24,14 @@ ghost use Prim.Native.Nat.{_^_, _≤_};
 ghost use lib.ListN.{length};
 ghost use lib.Seq.{sets};
 ghost use Rattle.records.specs.Limits.{horizonOk};
+ghost use Rattle.records.specs.Numbers.{zeros};
 ghost use Rattle.records.specs.Layout.{tableLength};
 ghost use Rattle.sheet.specs.Decoded.{inputLines};
 ghost use Rattle.sheet.specs.Where.{Fits, decoded};
+ghost use Rattle.supervisor.specs.Making.{Answers, Judges};
 ghost use Rattle.values.specs.Numbered.{stepsOf};
-ghost use Rattle.guard.specs.Promises.{workOk};
+ghost use Rattle.guard.specs.Table.{guardTableOf};
+ghost use Rattle.guard.specs.Promises.{workOk, guardStates, MakesGuard};
 ghost use Rattle.guard.specs.Entered.{Tabled};
 ghost use Rattle.guard.specs.Planned.{tableBy, Playable, Planned};
 ghost use Rattle.guard.specs.Lent.{lent, Long};
@@ -56,10 +69,64 @@ impl Guard {
     pub const ORDER: usize = 256;
 
     pub const NUMBERS: usize = 256;
+
+    // Makes the guard table of a sheet. The work memory may hold anything, and is zero afterwards.
+    pub fn make(
+        sheet: &[u8],
+        result: &mut [u8],
+        tuples: &mut [u8],
+        cells: &mut [u16],
+        dropped: &mut [u16],
+        gains: &mut [u16],
+        bonuses: &mut [u16],
+        values: &mut [u64],
+        next: &mut [u64],
+        choices: &mut [u8],
+        order: &mut [u16],
+        numbers: &mut [u16],
+    ) -> Made
+        ensures made { λ r. ⌜ MakesGuard (now (sheet .entry)) (now (result .entry)) (lent (length (now (tuples .entry))) (length (now (cells .entry))) (length (now (dropped .entry))) (length (now (gains .entry))) (length (now (bonuses .entry))) (length (now (values .entry))) (length (now (next .entry))) (length (now (choices .entry))) (length (now (order .entry))) (length (now (numbers .entry)))) r (now (result .exit)) ⌝ }
+        ensures tuples { λ _. ⌜ now (tuples .exit) ≡ zeros (length (now (tuples .entry))) ⌝ }
+        ensures cells { λ _. ⌜ now (cells .exit) ≡ zeros (length (now (cells .entry))) ⌝ }
+        ensures dropped { λ _. ⌜ now (dropped .exit) ≡ zeros (length (now (dropped .entry))) ⌝ }
+        ensures gains { λ _. ⌜ now (gains .exit) ≡ zeros (length (now (gains .entry))) ⌝ }
+        ensures bonuses { λ _. ⌜ now (bonuses .exit) ≡ zeros (length (now (bonuses .entry))) ⌝ }
+        ensures values { λ _. ⌜ now (values .exit) ≡ zeros (length (now (values .entry))) ⌝ }
+        ensures next { λ _. ⌜ now (next .exit) ≡ zeros (length (now (next .entry))) ⌝ }
+        ensures choices { λ _. ⌜ now (choices .exit) ≡ zeros (length (now (choices .entry))) ⌝ }
+        ensures order { λ _. ⌜ now (order .exit) ≡ zeros (length (now (order .entry))) ⌝ }
+        ensures numbers { λ _. ⌜ now (numbers .exit) ≡ zeros (length (now (numbers .entry))) ⌝ }
+    {
+        let made = make_with(
+            sheet,
+            result,
+            tuples,
+            cells,
+            dropped,
+            gains,
+            bonuses,
+            values,
+            next,
+            choices,
+            order,
+            numbers,
+        );
+        clear8(tuples);
+        clear16(cells);
+        clear16(dropped);
+        clear16(gains);
+        clear16(bonuses);
+        clear64(values);
+        clear64(next);
+        clear8(choices);
+        clear16(order);
+        clear16(numbers);
+        made
+    }
 }
 
 // Whether every slice of work memory is long enough.
-pub fn work_ok(
+fn work_ok(
     tuples: usize,
     cells: usize,
     dropped: usize,
@@ -105,7 +172,7 @@ pub fn work_ok(
 
 // The guard over a horizon, of a solved sheet whose start is kept: what steps earn, what states are worth, what is chosen,
 // and the states that are then met. Answers how many those are.
-pub fn plan(
+fn plan(
     s: &[u8],
     sheet: Sheet,
     horizon: u8,
@@ -163,7 +230,7 @@ pub fn plan(
 }
 
 // The table of a guard that was planned, at the start of the result.
-pub fn write(
+fn write(
     result: &mut [u8],
     sheet: Sheet,
     horizon: u8,
@@ -200,4 +267,139 @@ pub fn write(
         numbers,
         count,
     );
+}
+
+// A sheet in bounds: 7, 8, then the guard over the sheet's horizon, 9, and the result is written only then.
+fn make_read(
+    s: &[u8],
+    sheet: Sheet,
+    result: &mut [u8],
+    tuples: &mut [u8],
+    cells: &mut [u16],
+    dropped: &mut [u16],
+    gains: &mut [u16],
+    bonuses: &mut [u16],
+    values: &mut [u64],
+    next: &mut [u64],
+    choices: &mut [u8],
+    order: &mut [u16],
+    numbers: &mut [u16],
+) -> Made
+    requires { ⌜ Fits (now s) sheet ⌝ }
+    requires { ⌜ Long (lent (length (now tuples)) (length (now cells)) (length (now dropped)) (length (now gains)) (length (now bonuses)) (length (now values)) (length (now next)) (length (now choices)) (length (now order)) (length (now numbers))) ⌝ }
+    ensures { λ r. ⌜ Judges guardTableOf guardStates (decoded (now (s .entry)) sheet) (now (result .entry)) r (now (result .exit)) ⌝ }
+{
+    match solve(s, sheet, tuples, cells, dropped) {
+        Solved::TooMany => Made::Refused(Refusal::TooManyStates),
+        Solved::States {
+            states,
+            kept: _,
+            start,
+        } => {
+            if !start {
+                return Made::Refused(Refusal::Unrealizable);
+            }
+            let inputs = pow2(sheet.inputs);
+            let outputs = pow2(sheet.outputs);
+            let horizon = sheet.horizon;
+            let count = plan(
+                s,
+                sheet,
+                horizon,
+                inputs,
+                outputs,
+                states,
+                tuples,
+                cells,
+                dropped,
+                gains,
+                bonuses,
+                values,
+                next,
+                choices,
+                order,
+                numbers,
+            );
+            let layout = Layout {
+                inputs: sheet.inputs,
+            };
+            let length = layout.table_length(count);
+            if result.len() < length {
+                return Made::Refused(Refusal::ShortResult);
+            }
+            write(
+                result,
+                sheet,
+                horizon,
+                inputs,
+                outputs,
+                states,
+                cells,
+                choices,
+                order,
+                numbers,
+                count,
+            );
+            Made::Table {
+                length,
+                states: count,
+            }
+        }
+    }
+}
+
+// The whole making, with the work memory left as it falls.
+fn make_with(
+    sheet: &[u8],
+    result: &mut [u8],
+    tuples: &mut [u8],
+    cells: &mut [u16],
+    dropped: &mut [u16],
+    gains: &mut [u16],
+    bonuses: &mut [u16],
+    values: &mut [u64],
+    next: &mut [u64],
+    choices: &mut [u8],
+    order: &mut [u16],
+    numbers: &mut [u16],
+) -> Made
+    ensures { λ r. ⌜ Answers guardTableOf guardStates (workOk (lent (length (now (tuples .entry))) (length (now (cells .entry))) (length (now (dropped .entry))) (length (now (gains .entry))) (length (now (bonuses .entry))) (length (now (values .entry))) (length (now (next .entry))) (length (now (choices .entry))) (length (now (order .entry))) (length (now (numbers .entry))))) (now (sheet .entry)) (now (result .entry)) r (now (result .exit)) ⌝ }
+{
+    if !work_ok(
+        tuples.len(),
+        cells.len(),
+        dropped.len(),
+        gains.len(),
+        bonuses.len(),
+        values.len(),
+        next.len(),
+        choices.len(),
+        order.len(),
+        numbers.len(),
+    ) {
+        return Made::Refused(Refusal::ShortWork);
+    }
+    let reading = read(sheet);
+    let verdict = reading.verdict;
+    match verdict {
+        Verdict::Refused(ground) => Made::Refused(ground),
+        Verdict::Accepted => {
+            let layout = reading.sheet;
+            make_read(
+                sheet,
+                layout,
+                result,
+                tuples,
+                cells,
+                dropped,
+                gains,
+                bonuses,
+                values,
+                next,
+                choices,
+                order,
+                numbers,
+            )
+        }
+    }
 }

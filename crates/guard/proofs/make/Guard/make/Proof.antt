@@ -1,0 +1,172 @@
+-- `guard::make::Guard::make`: the whole promise from the answer by the model, and each slice cleared. Assumes nothing.
+use mathlib.Core.Path.{ap, _∙_}
+use native.Mathlib.Omega.{arith}
+use Rattle.records.specs.Numbers.{zeros}
+use Rattle.guard.specs.Written.{guard-promise}
+use borrow.Author.Needs.{needs}
+use Rattle.guard.proofs.make.Guard.make.Statement.{statement}
+use Rattle.guard.proofs.make.Guard.make.Tie as tie
+
+-- the places that the needs look back to: after each slice was cleared, the last first
+abbrev numbers : tie.After-slice-known32 → tie.After-clear166
+numbers c = c .before .before
+
+abbrev order : tie.After-slice-known32 → tie.After-clear165
+order c = numbers c .before .before .before .before
+
+abbrev choices : tie.After-slice-known32 → tie.After-clear82
+choices c = order c .before .before .before .before
+
+abbrev next : tie.After-slice-known32 → tie.After-clear642
+next c = choices c .before .before .before .before
+
+abbrev values : tie.After-slice-known32 → tie.After-clear64
+values c = next c .before .before .before .before
+
+abbrev bonuses : tie.After-slice-known32 → tie.After-clear164
+bonuses c = values c .before .before .before .before
+
+abbrev gains : tie.After-slice-known32 → tie.After-clear163
+gains c = bonuses c .before .before .before .before
+
+abbrev dropped : tie.After-slice-known32 → tie.After-clear162
+dropped c = gains c .before .before .before .before
+
+abbrev cells : tie.After-slice-known32 → tie.After-clear16
+cells c = dropped c .before .before .before .before
+
+abbrev tuples : tie.After-slice-known32 → tie.After-clear8
+tuples c = cells c .before .before .before .before
+
+abbrev made : tie.After-slice-known32 → tie.After-make-with
+made c = tuples c .before .before .before .before .before .before .before .before .before .before .before .before .before .before .before .before .before .before .before .before .before .before .before .before
+
+abbrev entered : tie.After-make-with → tie.After-shared-slice-known
+entered c = c .before .before .before .before .before .before .before .before .before .before .before .before .before .before .before .before .before .before .before .before .before .before .before
+
+make-with-requires : tie.Need-make-with-requires
+make-with-requires c κs = search needs
+
+clear8-requires : tie.Need-clear8-requires
+clear8-requires c κs = search needs
+
+clear16-requires : tie.Need-clear16-requires
+clear16-requires c κs = search needs
+
+clear16-requires-2 : tie.Need-clear16-requires-2
+clear16-requires-2 c κs = search needs
+
+clear16-requires-3 : tie.Need-clear16-requires-3
+clear16-requires-3 c κs = search needs
+
+clear16-requires-4 : tie.Need-clear16-requires-4
+clear16-requires-4 c κs = search needs
+
+clear64-requires : tie.Need-clear64-requires
+clear64-requires c κs = search needs
+
+clear64-requires-2 : tie.Need-clear64-requires-2
+clear64-requires-2 c κs = search needs
+
+clear8-requires-2 : tie.Need-clear8-requires-2
+clear8-requires-2 c κs = search needs
+
+clear16-requires-5 : tie.Need-clear16-requires-5
+clear16-requires-5 c κs = search needs
+
+clear16-requires-6 : tie.Need-clear16-requires-6
+clear16-requires-6 c κs = search needs
+
+same-length : tie.Need-same-length
+same-length c = made c .make-with .kept .1 .0
+
+same-length-2 : tie.Need-same-length-2
+same-length-2 c = tuples c .clear8 .kept .0 ∙ made c .make-with .kept .1 .1 .0
+
+same-length-3 : tie.Need-same-length-3
+same-length-3 c = cells c .clear16 .kept .0 ∙ made c .make-with .kept .1 .1 .1 .0
+
+same-length-4 : tie.Need-same-length-4
+same-length-4 c = dropped c .clear162 .kept .0 ∙ made c .make-with .kept .1 .1 .1 .1 .0
+
+same-length-5 : tie.Need-same-length-5
+same-length-5 c = gains c .clear163 .kept .0 ∙ made c .make-with .kept .1 .1 .1 .1 .1 .0
+
+same-length-6 : tie.Need-same-length-6
+same-length-6 c = bonuses c .clear164 .kept .0 ∙ made c .make-with .kept .1 .1 .1 .1 .1 .1 .0
+
+same-length-7 : tie.Need-same-length-7
+same-length-7 c = values c .clear64 .kept .0 ∙ made c .make-with .kept .1 .1 .1 .1 .1 .1 .1 .0
+
+same-length-8 : tie.Need-same-length-8
+same-length-8 c = search needs
+
+same-length-9 : tie.Need-same-length-9
+same-length-9 c = search needs
+
+same-length-10 : tie.Need-same-length-10
+same-length-10 c = search needs
+
+same-length-11 : tie.Need-same-length-11
+same-length-11 c = search needs
+
+returns : tie.Need-returns
+returns c = (
+  guard-promise _ (λ k. omega (arith, entered (made c) .shared-slice-known .given k)) (made c .make-with .ensures),
+  (
+    tuples c .clear8 .ensures ∙ ap zeros (made c .make-with .kept .1 .1 .0),
+    (
+      cells c .clear16 .ensures ∙ ap zeros (made c .make-with .kept .1 .1 .1 .0),
+      (
+        dropped c .clear162 .ensures ∙ ap zeros (made c .make-with .kept .1 .1 .1 .1 .0),
+        (
+          gains c .clear163 .ensures ∙ ap zeros (made c .make-with .kept .1 .1 .1 .1 .1 .0),
+          (
+            bonuses c .clear164 .ensures ∙ ap zeros (made c .make-with .kept .1 .1 .1 .1 .1 .1 .0),
+            (
+              values c .clear64 .ensures ∙ ap zeros (made c .make-with .kept .1 .1 .1 .1 .1 .1 .1 .0),
+              (
+                next c .clear642 .ensures ∙ ap zeros (made c .make-with .kept .1 .1 .1 .1 .1 .1 .1 .1 .0),
+                (
+                  choices c .clear82 .ensures ∙ ap zeros (made c .make-with .kept .1 .1 .1 .1 .1 .1 .1 .1 .1 .0),
+                  (
+                    order c .clear165 .ensures ∙ ap zeros (made c .make-with .kept .1 .1 .1 .1 .1 .1 .1 .1 .1 .1 .0),
+                    numbers c .clear166 .ensures ∙ ap zeros (made c .make-with .kept .1 .1 .1 .1 .1 .1 .1 .1 .1 .1 .1 .0),
+                  ),
+                ),
+              ),
+            ),
+          ),
+        ),
+      ),
+    ),
+  ),
+)
+
+pub make-spec : {M : Type 1} → statement M
+make-spec =
+    tie.close
+    (tie.spec
+    make-with-requires
+    clear8-requires
+    clear16-requires
+    clear16-requires-2
+    clear16-requires-3
+    clear16-requires-4
+    clear64-requires
+    clear64-requires-2
+    clear8-requires-2
+    clear16-requires-5
+    clear16-requires-6
+    same-length
+    same-length-2
+    same-length-3
+    same-length-4
+    same-length-5
+    same-length-6
+    same-length-7
+    same-length-8
+    same-length-9
+    same-length-10
+    same-length-11
+    returns)
