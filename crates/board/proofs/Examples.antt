@@ -10,7 +10,8 @@ use Rattle.records.specs.Limits.{linesOk, horizonOk}
 use Rattle.records.specs.Layout.{rowLength, tableLength, entryAt, headerIs}
 use Rattle.records.specs.GuardTable.{rowAt}
 use Rattle.board.specs.Board.{countsOk, live, emptyBoard, runAt}
-use Rattle.board.specs.Table.{sizeOk, fieldsOk, headOk, entryOk, entriesOk, rowOk, rowsOk, loadable, boardOf, loadOn, loadNumber}
+use Rattle.tables.specs.Loadable.{sizeOk, fieldsOk, headOk, entryOk, entriesOk, rowOk, rowsOk, loadable}
+use Rattle.board.specs.Load.{boardOf, loadOn, loadNumber}
 use Rattle.board.specs.Step.{proposal, deviates, outputAt, nextAt, entryFits, moved, lookedUp, stepOn, stepNumber, stepOutput}
 use Rattle.board.specs.declared.answers.Stepping.{Stepping}
 use Rattle.board.specs.History.{Call, load, step, Event, after, history, strayed}

@@ -8,7 +8,8 @@ use lib.Dec.{leb, ltb, eqb}
 use Rattle.records.specs.Tests.{by-test}
 use Rattle.records.specs.Limits.{maxSteps}
 use Rattle.board.specs.Board.{live, emptyBoard, rewindOn, unloadOn, changeNumber, changeRefusal}
-use Rattle.board.specs.Table.{loadable, loadOn, loadNumber, loadRefusal}
+use Rattle.tables.specs.Loadable.{loadable}
+use Rattle.board.specs.Load.{loadOn, loadNumber, loadRefusal}
 use Rattle.board.specs.Step.{outputAt, entryFits, moved, lookedUp, stepOn, stepNumber, stepOutput, stepRefusal, stepGiven}
 use Rattle.board.specs.History.{load, step, rewind, unload}
 use Rattle.board.specs.Laws.{empty-board}

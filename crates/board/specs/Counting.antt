@@ -9,7 +9,8 @@ use native.Mathlib.Nat.{zero-add, add-zero, add-comm}
 use borrow.Author.Tests.{eq-eqb}
 use Rattle.records.specs.Tests.{both-ways, by-test}
 use Rattle.board.specs.Board.{live, emptyBoard, runAt}
-use Rattle.board.specs.Table.{loadable, boardOf}
+use Rattle.tables.specs.Loadable.{loadable}
+use Rattle.board.specs.Load.{boardOf}
 use Rattle.board.specs.Step.{deviates, outputAt, nextAt, moved}
 use Rattle.board.specs.History.{Call, load, step, rewind, unload, Event, loadEvent, stepEvent, rewindEvent, unloadEvent, handed, answered, after, history, begins, strays, strayed, Counts, KeepsCount}
 use Rattle.board.specs.Laws.{empty-board, load-empty, load-bad, step-empty, rewind-empty, unload-empty, load-occupied, rewind-live, unload-live, step-case, refused, taken}

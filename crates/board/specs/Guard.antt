@@ -1,24 +1,19 @@
--- The guard table of given entries is a table to load.
+-- A board that holds the guard table of given entries goes by them.
 -- Assumes nothing.
-use mathlib.Core.Path.{_≡_, refl, sym, ap, ap₂, subst, _∙_}
+use mathlib.Core.Path.{_≡_, sym, ap, ap₂, subst, _∙_}
 use mathlib.Core.Bool.{true}
 use mathlib.Core.List.{List}
 use Prim.Native.Nat.{ℕ, _+_, _^_, _≤_, _<_}
-use native.Mathlib.Omega.{arith}
-use lib.Dec.{leb}
 use lib.ListN.{getD}
-use borrow.Author.Tests.{lt-ltb, le-leb, eq-eqb}
-use Rattle.records.specs.Tests.{and-both}
-use Rattle.records.specs.Bounded.{all-of}
 use Rattle.records.specs.Limits.{maxStates, maxSteps, linesOk, horizonOk}
-use Rattle.records.specs.Layout.{tableLength, entryAt, guardTable}
-use Rattle.records.specs.GuardTable.{HeadReads, table-head, row-header, entry-output, entry-next}
+use Rattle.records.specs.Layout.{entryAt, guardTable}
+use Rattle.records.specs.GuardTable.{HeadReads, table-head, entry-output, entry-next}
+use Rattle.tables.specs.Guard.{guard-loadable}
 use Rattle.board.specs.Board.{live}
 use Rattle.board.specs.Step.{outputAt, nextAt, moved, stepOn}
 use Rattle.board.specs.Facts.{live-facts}
 use Rattle.board.specs.Laws.{Shows, step-taken}
 use Rattle.board.specs.declared.Board.{Board}
-use Rattle.board.specs.Table.{sizeOk, fieldsOk, headOk, entryOk, entriesOk, rowOk, rowsOk, loadable}
 
 module _
     (mode inputs outputs horizon count : ℕ) (out next : ℕ → ℕ → ℕ)
@@ -30,31 +25,8 @@ module _
     abbrev table : List ℕ
     table = guardTable mode inputs outputs horizon count out next
 
-    fields : fieldsOk mode inputs outputs horizon count (tableLength inputs count) ≡ true
-    unfolding fieldsOk sizeOk
-    fields =
-        simp (lines, far, le-leb 1 count some, le-leb count maxStates most, eq-eqb (tableLength inputs count) (tableLength inputs count) refl)
-
     reads : HeadReads table mode inputs outputs horizon count
     reads = table-head mode inputs outputs horizon count out next
-
-    head : headOk table ≡ true
-    unfolding headOk tableLength
-    head =
-        let h = reads in
-        let long : leb 10 (tableLength inputs count) ≡ true = le-leb 10 (tableLength inputs count) (omega arith) in
-        simp (h .fills, h .header-is, h .mode-is, h .inputs-is, h .outputs-is, h .horizon-is, h .count-is, long, fields)
-
-    entry : (k i : ℕ) → k < count → i < 2 ^ inputs → entryOk table (entryAt inputs k i) outputs count ≡ true
-    unfolding entryOk
-    entry k i h l =
-        rw (entry-output mode inputs outputs horizon count out next k h i l, entry-next mode inputs outputs horizon count out next k h i l)
-        (and-both _ _ (lt-ltb _ _ (outs k i h l)) (lt-ltb _ _ (nexts k i h l)))
-
-    row : (k : ℕ) → k < count → rowOk table inputs outputs count k ≡ true
-    unfolding rowOk entriesOk
-    row k h =
-        and-both _ _ (row-header mode inputs outputs horizon count out next k h) (all-of (2 ^ inputs) _ (λ i l. entry k i h l))
 
     -- a board at one of its states reads the given entries
     output-at : (b : Board) (i : ℕ) → b .inputs ≡ inputs → b .place < count → i < 2 ^ inputs → outputAt b table i ≡ out (b .place) i
@@ -69,18 +41,11 @@ module _
         ap (λ (n : ℕ). getD table (entryAt n (b .place) i + 1) 0) q
         ∙ entry-next mode inputs outputs horizon count out next (b .place) k i l
 
-    -- every guard table in bounds loads
-    pub guard-loadable : loadable table ≡ true
-    unfolding loadable rowsOk
-    guard-loadable =
-        let h = reads in
-        rw (head, h .inputs-is, h .outputs-is, h .count-is) (all-of count (rowOk table inputs outputs count) row)
-
     -- a step of a live board that holds it goes by the given entries
     pub guard-step : (b : Board) → live b ≡ true → Shows b table → b .steps < maxSteps → (i : ℕ) → i < 2 ^ inputs
         → stepOn b table i ≡ moved b i (out (b .place) i) (next (b .place) i)
     guard-step b e s h i l =
         let same : b .inputs ≡ inputs = s .inputs ∙ reads .inputs-is in
         let k : b .place < count = subst (λ (n : ℕ). b .place < n) (s .count ∙ reads .count-is) (live-facts b e .place) in
-        step-taken b e table guard-loadable s i h (subst (λ (n : ℕ). i < 2 ^ n) (sym same) l)
+        step-taken b e table (guard-loadable mode inputs outputs horizon count out next lines far some most outs nexts) s i h (subst (λ (n : ℕ). i < 2 ^ n) (sym same) l)
         ∙ ap₂ (moved b i) (output-at b i same k l) (next-at b i same k l)

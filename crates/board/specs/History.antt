@@ -6,7 +6,7 @@ use mathlib.Core.List.{List, [], _∷_}
 use Prim.Native.Nat.{ℕ, _+_}
 use lib.Dec.{eqb}
 use Rattle.board.specs.Board.{live, rewindOn, unloadOn, changeNumber}
-use Rattle.board.specs.Table.{loadOn, loadNumber}
+use Rattle.board.specs.Load.{loadOn, loadNumber}
 use Rattle.board.specs.Step.{proposal, stepOn, stepNumber, stepOutput}
 use Rattle.board.specs.declared.Board.{Board}
 use Rattle.board.specs.declared.answers.Loading.{Loading}

@@ -15,10 +15,12 @@ use Rattle.records.specs.Numbers.{u16At}
 use Rattle.records.specs.Limits.{maxSteps}
 use Rattle.records.specs.Layout.{tableLength, entryAt}
 use Rattle.board.specs.Board.{live, emptyBoard, runAt, rewindOn, unloadOn}
-use Rattle.board.specs.Table.{entryOk, loadable, boardOf, loadOn}
+use Rattle.tables.specs.Loadable.{entryOk, loadable}
+use Rattle.tables.specs.Facts.{loadable-head, loadable-entry}
+use Rattle.board.specs.Load.{boardOf, loadOn}
 use Rattle.board.specs.Step.{proposal, deviates, outputAt, nextAt, entryFits, moved, lookedUp, stepOn, stepNumber, stepRefusal}
 use Rattle.board.specs.History.{Call, load, step, rewind, unload, handed}
-use Rattle.board.specs.Facts.{live-facts, facts-live, loadable-head, loadable-entry}
+use Rattle.board.specs.Facts.{live-facts, facts-live}
 use Rattle.board.specs.declared.Board.{Board}
 use Rattle.board.specs.declared.answers.Load.{Load}
 use Rattle.board.specs.declared.answers.Loading.{Loading}

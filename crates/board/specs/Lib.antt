@@ -1,6 +1,6 @@
 -- The board: what its calls hand back, what they promise, and the laws for the layers above.
 pub mod Board
-pub mod Table
+pub mod Load
 pub mod Step
 pub mod History
 pub mod Promises

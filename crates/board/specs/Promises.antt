@@ -4,7 +4,7 @@ use mathlib.Core.Path.{_≡_}
 use mathlib.Core.List.{List}
 use Prim.Native.Nat.{ℕ}
 use Rattle.board.specs.Board.{emptyBoard, rewindOn, unloadOn, changeNumber, changeRefusal}
-use Rattle.board.specs.Table.{loadOn, loadNumber, loadRefusal}
+use Rattle.board.specs.Load.{loadOn, loadNumber, loadRefusal}
 use Rattle.board.specs.Step.{stepOn, stepNumber, stepOutput, stepRefusal, stepGiven}
 use Rattle.board.specs.History.{Call, loadEvent, stepEvent, rewindEvent, unloadEvent, after, history, Counts, KeepsCount}
 use Rattle.board.specs.declared.Board.{Board}

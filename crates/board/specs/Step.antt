@@ -8,7 +8,7 @@ use lib.ListN.{length, getD}
 use Rattle.records.specs.Limits.{maxSteps}
 use Rattle.records.specs.Layout.{tableLength, entryAt}
 use Rattle.board.specs.Board.{live, runAt}
-use Rattle.board.specs.Table.{entryOk}
+use Rattle.tables.specs.Loadable.{entryOk}
 use Rattle.board.specs.declared.Board.{Board}
 use Rattle.board.specs.declared.answers.Step.{Step}
 use Rattle.board.specs.declared.answers.Step.the-variants.{Output, Empty, Spent, BadInput, BadTable}

@@ -9,16 +9,20 @@ use crate::answers::Stepping;
 use records::layout::Layout;
 use records::limits::lines_ok;
 use records::numbers::pow2;
+use records::numbers::u16_at;
+use tables::entry_ok;
+use tables::is_loadable;
 ghost use mathlib.Core.Path.{_≡_};
 ghost use mathlib.Core.Bool.{true};
-ghost use Prim.Native.Nat.{_^_, _<_};
+ghost use Prim.Native.Nat.{_^_, _<_, _≤_};
+ghost use lib.ListN.{length};
 ghost use Rattle.records.specs.Limits.{linesOk};
 ghost use Rattle.board.specs.Board.{countsOk, live, runAt};
+ghost use Rattle.board.specs.Load.{boardOf};
 ghost use Rattle.board.specs.Step.{deviates, moved, lookedUp};
 ghost use Rattle.board.specs.Promises.{EmptyPromise, LoadPromise, StepPromise, RewindPromise, UnloadPromise};
 
 pub mod answers;
-pub mod table;
 
 pub struct Board {
     pub loaded: bool,
@@ -69,6 +73,23 @@ fn deviates(mode: u8, inputs: u8, outputs: u8, input: u8, output: u8) -> bool
     false
 }
 
+// The board that a table gives: its head's mode, lines and count, at the start of a run.
+fn board_of(t: &[u8]) -> Board
+    requires { ⌜ 10 ≤ length (now t) ⌝ }
+    ensures { λ r. ⌜ r ≡ boardOf (now (t .entry)) ⌝ }
+{
+    Board {
+        loaded: true,
+        mode: t[4],
+        inputs: t[5],
+        outputs: t[6],
+        count: u16_at(t, 8),
+        place: 0,
+        steps: 0,
+        deviations: 0,
+    }
+}
+
 impl Board {
     // A run has at most so many steps.
     pub const STEP_LIMIT: u32 = 1_000_000;
@@ -114,8 +135,8 @@ impl Board {
         if self.is_live() {
             return Loading::of(self, Load::Occupied);
         }
-        if table::is_loadable(table) {
-            return Loading::of(table::board_of(table), Load::Loaded);
+        if is_loadable(table) {
+            return Loading::of(board_of(table), Load::Loaded);
         }
         Loading::of(self, Load::BadTable)
     }
@@ -149,7 +170,7 @@ impl Board {
             return Stepping::of(self, Step::BadTable);
         }
         let at = layout.entry_at(self.place as usize, input as usize);
-        if table::entry_ok(table, at, self.outputs, count) {
+        if entry_ok(table, at, self.outputs, count) {
             return self.moved(input, table[at], table[at + 1]);
         }
         Stepping::of(self, Step::BadTable)

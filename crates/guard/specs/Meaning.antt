@@ -17,7 +17,7 @@ use Rattle.product.specs.Step.{inputsOf, outputsOf, advance, reward, differs, f
 use Rattle.values.specs.Order.{Higher}
 use Rattle.supervisor.specs.Meaning.{Allowed}
 use Rattle.board.specs.Board.{live, rewindOn, unloadOn, changeNumber}
-use Rattle.board.specs.Table.{loadOn, loadNumber}
+use Rattle.board.specs.Load.{loadOn, loadNumber}
 use Rattle.board.specs.Step.{stepOn, stepNumber, stepOutput}
 use Rattle.board.specs.declared.Board.{Board}
 

@@ -21,12 +21,14 @@ use Rattle.game.specs.Machine.{RunsTable}
 use Rattle.rounds.specs.Rounds.{isIn}
 use Rattle.supervisor.specs.Table.{droppedOf}
 use Rattle.board.specs.Board.{live, runAt, rewindOn, unloadOn, changeNumber}
-use Rattle.board.specs.Table.{loadable, boardOf, loadOn, loadNumber}
+use Rattle.tables.specs.Loadable.{loadable}
+use Rattle.board.specs.Load.{boardOf, loadOn, loadNumber}
 use Rattle.board.specs.Step as board
 use Rattle.board.specs.Step.{deviates, moved, stepOn, stepNumber, stepOutput}
 use Rattle.board.specs.History as calls
 use Rattle.board.specs.Laws as laws
-use Rattle.board.specs.Guard.{guard-loadable, guard-step}
+use Rattle.tables.specs.Guard.{guard-loadable}
+use Rattle.board.specs.Guard.{guard-step}
 use Rattle.board.specs.declared.Board.{Board}
 use Rattle.board.specs.declared.answers.Loading.{Loading}
 use Rattle.board.specs.declared.answers.Stepping.{Stepping}

@@ -3,8 +3,8 @@ use mathlib.Core.Path.{_≡_}
 use mathlib.Core.Bool.{false}
 use Rattle.records.specs.Tests.{said}
 use Rattle.board.specs.Board.{live}
-use Rattle.board.specs.Table.{loadOn}
-use Rattle.board.specs.Facts.{loadable-head}
+use Rattle.board.specs.Load.{loadOn}
+use Rattle.tables.specs.Facts.{loadable-head}
 use Rattle.board.proofs.Promises.{load-promise}
 use borrow.Author.Needs.{needs}
 use Rattle.board.proofs.Board.load.Statement.{statement}

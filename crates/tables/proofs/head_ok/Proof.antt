@@ -1,9 +1,9 @@
--- `board::table::head_ok`: the tests in the definition's order. Assumes nothing.
+-- `tables::head_ok`: the tests in the definition's order. Assumes nothing.
 use Rattle.records.specs.Tests.{cases, said}
-use Rattle.board.specs.Table.{headOk}
+use Rattle.tables.specs.Loadable.{headOk}
 use borrow.Author.Needs.{needs}
-use Rattle.board.proofs.table.head_ok.Statement.{statement}
-use Rattle.board.proofs.table.head_ok.Tie as tie
+use Rattle.tables.proofs.head_ok.Statement.{statement}
+use Rattle.tables.proofs.head_ok.Tie as tie
 
 -- where the fields are tested
 abbrev tested : tie.After-fields-ok → tie.Then2

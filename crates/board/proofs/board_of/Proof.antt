@@ -1,8 +1,8 @@
--- `board::table::board_of`: the head's fields. Assumes nothing.
-use Rattle.board.specs.Table.{boardOf}
+-- `board::board_of`: the head's fields. Assumes nothing.
+use Rattle.board.specs.Load.{boardOf}
 use borrow.Author.Needs.{needs}
-use Rattle.board.proofs.table.board_of.Statement.{statement}
-use Rattle.board.proofs.table.board_of.Tie as tie
+use Rattle.board.proofs.board_of.Statement.{statement}
+use Rattle.board.proofs.board_of.Tie as tie
 
 shared-slice-read-t3 : tie.Need-shared-slice-read-t3
 shared-slice-read-t3 c = search needs

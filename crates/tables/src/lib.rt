@@ -1,5 +1,4 @@
-// Which slices are guard tables that a board may load, and the board that one gives.
-use crate::Board;
+// Which slices are guard tables that a board may load.
 use records::layout::Layout;
 use records::layout::header_is;
 use records::limits::horizon_ok;
@@ -11,7 +10,7 @@ ghost use Prim.Native.Nat.{_+_, _<_, _≤_};
 ghost use lib.ListN.{length};
 ghost use Rattle.records.specs.Limits.{maxStates};
 ghost use Rattle.records.specs.GuardTable.{rowAt};
-ghost use Rattle.board.specs.Table.{sizeOk, fieldsOk, headOk, entryOk, entriesOk, rowOk, rowsOk, loadable, boardOf, Sized};
+ghost use Rattle.tables.specs.Loadable.{sizeOk, fieldsOk, headOk, entryOk, entriesOk, rowOk, rowsOk, loadable, Sized};
 
 // Whether the count is in range, and the slice is as long as a table of so many states.
 fn size_ok(inputs: u8, count: u16, size: usize) -> bool
@@ -125,21 +124,4 @@ pub fn is_loadable(t: &[u8]) -> bool
         return rows_ok(t, t[5], t[6], u16_at(t, 8) as usize);
     }
     false
-}
-
-// The board that a table gives: its head's mode, lines and count, at the start of a run.
-pub fn board_of(t: &[u8]) -> Board
-    requires { ⌜ 10 ≤ length (now t) ⌝ }
-    ensures { λ r. ⌜ r ≡ boardOf (now (t .entry)) ⌝ }
-{
-    Board {
-        loaded: true,
-        mode: t[4],
-        inputs: t[5],
-        outputs: t[6],
-        count: u16_at(t, 8),
-        place: 0,
-        steps: 0,
-        deviations: 0,
-    }
 }

@@ -1,11 +1,11 @@
--- `board::table::entry_ok`: the tests in the definition's order. Assumes nothing.
+-- `tables::entry_ok`: the tests in the definition's order. Assumes nothing.
 use native.Mathlib.Omega.{arith}
 use Prim.Native.Nat.{_+_}
 use Rattle.records.specs.Tests.{cases}
-use Rattle.board.specs.Table.{entryOk}
+use Rattle.tables.specs.Loadable.{entryOk}
 use borrow.Author.Needs.{needs}
-use Rattle.board.proofs.table.entry_ok.Statement.{statement}
-use Rattle.board.proofs.table.entry_ok.Tie as tie
+use Rattle.tables.proofs.entry_ok.Statement.{statement}
+use Rattle.tables.proofs.entry_ok.Tie as tie
 
 shared-slice-read-output : tie.Need-shared-slice-read-output
 shared-slice-read-output c = search needs

@@ -1,4 +1,4 @@
--- `board::table::row_ok`: the tests in the definition's order. Assumes nothing.
+-- `tables::row_ok`: the tests in the definition's order. Assumes nothing.
 use native.Mathlib.Omega.{arith}
 use mathlib.Core.Path.{_≡_}
 use mathlib.Core.Bool.{Bool, true, false}
@@ -8,10 +8,10 @@ use denote.Ref.{now}
 use Rattle.records.specs.Tests.{said}
 use Rattle.records.specs.Layout.{entryWidth, headerIs}
 use Rattle.records.specs.GuardTable.{rowAt, row-inside}
-use Rattle.board.specs.Table.{rowOk}
+use Rattle.tables.specs.Loadable.{rowOk}
 use borrow.Author.Needs.{needs}
-use Rattle.board.proofs.table.row_ok.Statement.{statement}
-use Rattle.board.proofs.table.row_ok.Tie as tie
+use Rattle.tables.proofs.row_ok.Statement.{statement}
+use Rattle.tables.proofs.row_ok.Tie as tie
 
 abbrev entry : tie.After-pow2 → tie.Start
 entry c = c .before .before

@@ -1,7 +1,7 @@
--- A table to load (document 01, 'Sheet and tables'), the board that it gives, and what load hands back.
+-- A table to load (document 01, 'Sheet and tables').
 -- Assumes nothing.
 use mathlib.Core.Path.{_≡_}
-use mathlib.Core.Bool.{Bool, true, cond, _&&_}
+use mathlib.Core.Bool.{Bool, _&&_}
 use mathlib.Core.List.{List}
 use Prim.Native.Nat.{ℕ, _+_, _*_, _^_, _≤_}
 use lib.Dec.{ltb, leb, eqb}
@@ -11,11 +11,6 @@ use Rattle.records.specs.Numbers.{u16At}
 use Rattle.records.specs.Limits.{maxStates, linesOk, horizonOk}
 use Rattle.records.specs.Layout.{entryWidth, tableLength, entryAt, headerIs}
 use Rattle.records.specs.GuardTable.{rowAt}
-use Rattle.board.specs.Board.{live}
-use Rattle.board.specs.declared.Board.{Board}
-use Rattle.board.specs.declared.answers.Load.{Load}
-use Rattle.board.specs.declared.answers.Load.the-variants.{Loaded, Occupied, BadTable}
-use Rattle.board.specs.declared.answers.Loading.{Loading}
 
 -- ---- the head: kind 16, its fields in bounds, and the rows fill the rest of the slice exactly
 
@@ -55,25 +50,3 @@ pub record Sized (t : List ℕ) (inputs outputs count : ℕ) : Type 0 where
   pub outputs-most : outputs ≤ 3
   pub count-most : count ≤ maxStates
   pub fills : length t ≡ tableLength inputs count
-
--- ---- load
-
--- the board that a table gives: its head's mode, lines and count, at the start of a run
-unfoldable pub boardOf : List ℕ → Board
-boardOf t =
-    record { loaded = true; mode = getD t 4 0; inputs = getD t 5 0; outputs = getD t 6 0; count = u16At t 8; place = 0; steps = 0; deviations = 0 }
-
-unfoldable pub loadOn : Board → List ℕ → Loading
-loadOn b t =
-    cond (live b) (record { board = b; answer = Occupied })
-    (cond (loadable t) (record { board = boardOf t; answer = Loaded }) (record { board = b; answer = BadTable }))
-
--- document 01's number of an answer, 0 for no refusal; the answer has no other figure
-abbrev pub loadNumber : Load → ℕ
-loadNumber Loaded = 0
-loadNumber Occupied = 21
-loadNumber BadTable = 11
-
--- the number that is due: 21, then 11
-unfoldable pub loadRefusal : Board → List ℕ → ℕ
-loadRefusal b t = cond (live b) 21 (cond (loadable t) 0 11)

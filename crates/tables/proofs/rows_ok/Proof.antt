@@ -1,13 +1,13 @@
--- `board::table::rows_ok`: the rows passed are in order. Assumes nothing.
+-- `tables::rows_ok`: the rows passed are in order. Assumes nothing.
 use native.Mathlib.Omega.{arith}
 use Prim.Native.Nat.{_≤_, _-_}
 use mathlib.Core.Path.{_≡_, sym}
 use mathlib.Core.Bool.{true}
 use Rattle.records.specs.Tests.{said-no, said-yes}
 use Rattle.records.specs.Bounded.{all, all-none, all-more, all-fails}
-use Rattle.board.specs.Table.{rowOk, rowsOk}
-use Rattle.board.proofs.table.rows_ok.Statement.{statement}
-use Rattle.board.proofs.table.rows_ok.Tie as tie
+use Rattle.tables.specs.Loadable.{rowOk, rowsOk}
+use Rattle.tables.proofs.rows_ok.Statement.{statement}
+use Rattle.tables.proofs.rows_ok.Tie as tie
 
 abbrev Inv-loop : tie.InvT-loop
 Inv-loop t inputs outputs count place₀ place = (place ≤ count) × (all place (rowOk t inputs outputs count) ≡ true)

@@ -1,14 +1,14 @@
--- `board::table::is_loadable`: the head first, whose length the rows then take for granted. Assumes nothing.
+-- `tables::is_loadable`: the head first, whose length the rows then take for granted. Assumes nothing.
 use native.Mathlib.Omega.{arith}
 use mathlib.Core.Path.{_≡_}
 use mathlib.Core.Bool.{true}
 use denote.Ref.{now}
 use Rattle.records.specs.Tests.{said}
-use Rattle.board.specs.Table.{headOk, loadable}
-use Rattle.board.specs.Facts.{head-facts, head-sized}
+use Rattle.tables.specs.Loadable.{headOk, loadable}
+use Rattle.tables.specs.Facts.{head-facts, head-sized}
 use borrow.Author.Needs.{needs}
-use Rattle.board.proofs.table.is_loadable.Statement.{statement}
-use Rattle.board.proofs.table.is_loadable.Tie as tie
+use Rattle.tables.proofs.is_loadable.Statement.{statement}
+use Rattle.tables.proofs.is_loadable.Tie as tie
 
 -- where the rows are tested
 abbrev tested : tie.After-u16-at → tie.Then1

@@ -1,12 +1,12 @@
--- `board::table::fields_ok`: the tests in the definition's order. Assumes nothing.
+-- `tables::fields_ok`: the tests in the definition's order. Assumes nothing.
 use mathlib.Core.Path.{_≡_}
 use mathlib.Core.Bool.{true}
 use Rattle.records.specs.Tests.{said}
 use Rattle.records.specs.Limits.{linesOk, lines-facts}
-use Rattle.board.specs.Table.{fieldsOk}
+use Rattle.tables.specs.Loadable.{fieldsOk}
 use borrow.Author.Needs.{needs}
-use Rattle.board.proofs.table.fields_ok.Statement.{statement}
-use Rattle.board.proofs.table.fields_ok.Tie as tie
+use Rattle.tables.proofs.fields_ok.Statement.{statement}
+use Rattle.tables.proofs.fields_ok.Tie as tie
 
 lines : (c : tie.Then1) → linesOk (c .before .before .args .mode) (c .before .before .args .inputs) (c .before .before .args .outputs) ≡ true
 lines c = said (c .before .lines-ok .ensures) (c .if1 .taken)

@@ -1,9 +1,9 @@
--- `board::table::size_ok`: the tests in the definition's order. Assumes nothing.
+-- `tables::size_ok`: the tests in the definition's order. Assumes nothing.
 use Rattle.records.specs.Tests.{cases}
-use Rattle.board.specs.Table.{sizeOk}
+use Rattle.tables.specs.Loadable.{sizeOk}
 use borrow.Author.Needs.{needs}
-use Rattle.board.proofs.table.size_ok.Statement.{statement}
-use Rattle.board.proofs.table.size_ok.Tie as tie
+use Rattle.tables.proofs.size_ok.Statement.{statement}
+use Rattle.tables.proofs.size_ok.Tie as tie
 
 returns : tie.Need-returns
 unfolding sizeOk

@@ -1,11 +1,11 @@
--- `board::table::row_at`: at most 256 rows of 36 bytes before it. Assumes nothing.
+-- `tables::row_at`: at most 256 rows of 36 bytes before it. Assumes nothing.
 use native.Mathlib.Omega.{arith}
 use native.Mathlib.Nat.{mul-le-mul}
 use Prim.Native.Nat.{_*_, _≤_}
 use Rattle.records.specs.GuardTable.{rowAt}
 use borrow.Author.Needs.{needs}
-use Rattle.board.proofs.table.row_at.Statement.{statement}
-use Rattle.board.proofs.table.row_at.Tie as tie
+use Rattle.tables.proofs.row_at.Statement.{statement}
+use Rattle.tables.proofs.row_at.Tie as tie
 
 rows : (c : tie.After-row-length) → c .before .args .place * c .row-length .result ≤ 9216
 rows c = mul-le-mul {n₂ = 256} {m₂ = 36} (omega arith) (omega arith)

@@ -1,4 +1,4 @@
--- `board::table::entries_ok`: the entries passed are in range. Assumes nothing.
+-- `tables::entries_ok`: the entries passed are in range. Assumes nothing.
 use native.Mathlib.Omega.{arith}
 use Prim.Native.Nat.{_≤_, _<_, _+_, _-_, _^_}
 use mathlib.Core.Path.{_≡_, sym}
@@ -10,9 +10,9 @@ use Rattle.records.specs.Tests.{said-no, said-yes}
 use Rattle.records.specs.Bounded.{all, all-none, all-more, all-fails}
 use Rattle.records.specs.Layout.{entryAt}
 use Rattle.records.specs.GuardTable.{entry-inside}
-use Rattle.board.specs.Table.{entryOk, entriesOk}
-use Rattle.board.proofs.table.entries_ok.Statement.{statement}
-use Rattle.board.proofs.table.entries_ok.Tie as tie
+use Rattle.tables.specs.Loadable.{entryOk, entriesOk}
+use Rattle.tables.proofs.entries_ok.Statement.{statement}
+use Rattle.tables.proofs.entries_ok.Tie as tie
 
 abbrev Inv-loop : tie.InvT-loop
 Inv-loop t inputs outputs count place entries input₀ input =
