@@ -14,7 +14,8 @@ use Rattle.sheet.specs.Where.{decoded, Fits}
 use Rattle.sheet.specs.declared.layout.Sheet.{Sheet}
 use Rattle.sheet.specs.declared.layout.Refusal.the-variants as ground
 use Rattle.product.specs.Numbered.{stateCount}
-use Rattle.supervisor.specs.Table.{tableRow, supervisorTable, tableLength}
+use Rattle.masks.specs.Rows.{tableRow, tableLength}
+use Rattle.supervisor.specs.Table.{supervisorTable}
 use Rattle.supervisor.specs.Solve.{Solution}
 use Rattle.supervisor.specs.Making.{Judges}
 use Rattle.supervisor.specs.Solving.{inputs-most, outputs-most, layout-inputs, layout-outputs}

@@ -7,23 +7,19 @@ use native.Mathlib.Nat.{add-assoc}
 use native.Mathlib.Omega.{arith}
 use lib.ListN.{length, getD, length-append}
 use lib.Seq.{getD-append-add}
-use Rattle.records.specs.Lists.{tab, cat, length-tab, getD-tab, length-cat, getD-cat}
+use Rattle.records.specs.Lists.{tab, cat, getD-tab, length-cat, getD-cat}
 use Rattle.records.specs.Numbers.{u16At, u16-back}
 use Rattle.sheet.specs.Decoded.{Decoded, inputLines}
 use Rattle.product.specs.Step.{inputsOf, outputsOf}
 use Rattle.product.specs.Numbered.{stateCount}
 use Rattle.rounds.specs.Rounds.{maskOf}
-use Rattle.supervisor.specs.Table.{cellsOf, droppedOf, supervisorTable, keptFlag, tableHead, tableRow, tableOf, rowLength, tableLength, keptAt, maskAt}
+use Rattle.masks.specs.Rows.{keptFlag, tableRow, rowLength, tableLength, length-row}
+use Rattle.supervisor.specs.Table.{cellsOf, droppedOf, supervisorTable, tableHead, tableOf, keptAt, maskAt}
 
 -- the head's length
 pub length-head : (d : Decoded) (n : ℕ) → length (tableHead d n) ≡ 9
 unfolding tableHead
 length-head d n = refl
-
--- a row's length
-pub length-row : (cells dropped : List ℕ) (inputs outputs k : ℕ) → length (tableRow cells dropped inputs outputs k) ≡ rowLength inputs
-unfolding tableRow rowLength
-length-row cells dropped inputs outputs k = omega (arith, length-tab inputs (maskOf cells dropped inputs outputs k))
 
 module _ (d : Decoded) (n : ℕ) (cells dropped : List ℕ) where
   -- the rows of a table

@@ -19,7 +19,8 @@ use Rattle.game.specs.Supervisor.{permissive-supervises, permissive-greatest}
 use Rattle.rounds.specs.Rounds.{isIn, maskOf}
 use Rattle.rounds.specs.Masks.{allows, mask-says, mask-past, mask-lost}
 use Rattle.supervisor.specs.Meaning.{Kept, Allowed, MaximallyPermissive}
-use Rattle.supervisor.specs.Table.{cellsOf, droppedOf, keptFlag, supervisorTable}
+use Rattle.masks.specs.Rows.{keptFlag}
+use Rattle.supervisor.specs.Table.{cellsOf, droppedOf, supervisorTable}
 use Rattle.supervisor.specs.Entries.{settled-quiet, in-iff, out-iff, leads-iff}
 use Rattle.supervisor.specs.Bytes.{table-count, table-kept, table-mask}
 use Rattle.supervisor.specs.Promises.{Means}

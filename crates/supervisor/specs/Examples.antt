@@ -16,7 +16,8 @@ use Rattle.product.specs.Step.{inputsOf, outputsOf, advance, unbroken, firstTup
 use Rattle.product.specs.States.{same, lettersOf}
 use Rattle.product.specs.Numbered.{statesAfter, productStates, stateCount, stateOf, numberOf, cellOf}
 use Rattle.rounds.specs.Rounds.{cellAt, isIn, leadsIn, answered, stays, entryAfter, round, rounds, settled, maskOf}
-use Rattle.supervisor.specs.Table.{cellsOf, droppedOf, keptFlag, tableHead, tableRow, tableOf, supervisorTable}
+use Rattle.masks.specs.Rows.{keptFlag, tableRow}
+use Rattle.supervisor.specs.Table.{cellsOf, droppedOf, tableHead, tableOf, supervisorTable}
 
 -- sheet A: never on twice running, and 3 for output equal to input
 abbrev pub sheetA : Decoded

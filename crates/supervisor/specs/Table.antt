@@ -1,6 +1,5 @@
 -- The model of the supervisor table (document 01): the table of steps, the rounds over it, and the bytes.
 -- Assumes nothing.
-use mathlib.Core.Bool.{cond}
 use mathlib.Core.List.{List, [], _∷_, _++_}
 use Prim.Native.Nat.{ℕ, _+_, _*_, _/_, _%_}
 use lib.ListN.{length, getD}
@@ -11,7 +10,8 @@ use Rattle.sheet.specs.Decoded.{Decoded, inputLines}
 use Rattle.product.specs.Step.{inputsOf, outputsOf}
 use Rattle.product.specs.States.{lettersOf}
 use Rattle.product.specs.Numbered.{stateCount, cellOf}
-use Rattle.rounds.specs.Rounds.{isIn, settled, maskOf}
+use Rattle.rounds.specs.Rounds.{settled}
+use Rattle.masks.specs.Rows.{tableRow, rowLength}
 
 -- the table of steps as one list, a row of letters for each product state
 unfoldable pub cellsOf : Decoded → List ℕ
@@ -23,20 +23,11 @@ cellsOf d =
 unfoldable pub droppedOf : Decoded → List ℕ
 droppedOf d = settled (cellsOf d) (stateCount d) (inputsOf d) (outputsOf d) (zeros (stateCount d))
 
--- 1 if state k is kept, else 0
-unfoldable pub keptFlag : List ℕ → ℕ → ℕ
-keptFlag dropped k = cond (isIn dropped k) 1 0
-
 -- ---- the bytes, from a table of steps and its rounds
 
 -- kind 19: mode, inputs, outputs and the count
 unfoldable pub tableHead : Decoded → ℕ → List ℕ
 tableHead d count = header 5 19 ++ (d .mode ∷ inputLines d ∷ d .outputs ∷ u16Bytes count)
-
--- kind 18: whether the state is kept, and a mask for each input
-unfoldable pub tableRow : List ℕ → List ℕ → ℕ → ℕ → ℕ → List ℕ
-tableRow cells dropped inputs outputs k =
-    header (1 + inputs) 18 ++ (keptFlag dropped k ∷ tab inputs (maskOf cells dropped inputs outputs k))
 
 unfoldable pub tableOf : Decoded → ℕ → List ℕ → List ℕ → List ℕ
 tableOf d count cells dropped =
@@ -45,13 +36,6 @@ tableOf d count cells dropped =
 -- the supervisor table of a sheet
 unfoldable pub supervisorTable : Decoded → List ℕ
 supervisorTable d = tableOf d (stateCount d) (cellsOf d) (droppedOf d)
-
--- a row's length, and the table's
-unfoldable pub rowLength : ℕ → ℕ
-rowLength inputs = 5 + inputs
-
-unfoldable pub tableLength : ℕ → ℕ → ℕ
-tableLength inputs count = 9 + count * rowLength inputs
 
 -- ---- where the parts stand
 

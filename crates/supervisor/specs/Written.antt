@@ -23,7 +23,8 @@ use Rattle.sheet.specs.declared.layout.Sheet.{Sheet}
 use Rattle.sheet.specs.declared.layout.Refusal.the-variants as ground
 use Rattle.product.specs.Step.{inputsOf, outputsOf}
 use Rattle.product.specs.Numbered.{stateCount}
-use Rattle.supervisor.specs.Table.{tableHead, tableRow, tableOf, supervisorTable, tableLength}
+use Rattle.masks.specs.Rows.{tableRow, tableLength}
+use Rattle.supervisor.specs.Table.{tableHead, tableOf, supervisorTable}
 use Rattle.supervisor.specs.Solve.{Solution}
 use Rattle.supervisor.specs.Making.{sheetOf, madeLength, Judges, Answers}
 use Rattle.supervisor.specs.Promises.{tuplesLength, cellsLength, droppedLength, workOk, MakesSupervisor}

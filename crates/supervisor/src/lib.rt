@@ -1,4 +1,3 @@
 // The maximally permissive supervisor of a sheet, as a table.
 pub mod make;
 pub mod solve;
-pub mod table;

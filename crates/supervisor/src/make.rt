@@ -1,9 +1,9 @@
 // The maker of supervisor tables.
 use crate::solve::Solved;
 use crate::solve::solve;
-use crate::table::put_head;
-use crate::table::put_rows;
-use crate::table::table_length;
+use masks::put_head;
+use masks::put_rows;
+use masks::table_length;
 use records::clear::clear8;
 use records::clear::clear16;
 use records::numbers::pow2;

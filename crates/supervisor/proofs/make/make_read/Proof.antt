@@ -7,7 +7,8 @@ use borrow.Author.Tests.{not-true, not-false}
 use Rattle.sheet.specs.Decoded.{Decoded}
 use Rattle.sheet.specs.Where.{decoded}
 use Rattle.product.specs.Numbered.{stateCount}
-use Rattle.supervisor.specs.Table.{supervisorTable, tableLength}
+use Rattle.masks.specs.Rows.{tableLength}
+use Rattle.supervisor.specs.Table.{supervisorTable}
 use Rattle.supervisor.specs.Solve.{Solution, Solves}
 use Rattle.supervisor.specs.Solving.{layout-steps}
 use Rattle.supervisor.specs.Judging.{judges-many}

@@ -1,4 +1,4 @@
--- `supervisor::table::put_head`: nine bytes, stored one after the other. Assumes nothing.
+-- `masks::put_head`: nine bytes, stored one after the other. Assumes nothing.
 use mathlib.Core.Path.{ap, _∙_}
 use mathlib.Core.List.{_∷_, _++_}
 use lib.Seq.{length-sets}
@@ -7,8 +7,8 @@ use Rattle.records.specs.Cursor.{header}
 use native.Mathlib.Omega.{arith}
 use lib.ListN.{length, length-set}
 use borrow.Author.Needs.{needs}
-use Rattle.supervisor.proofs.table.put_head.Statement.{statement}
-use Rattle.supervisor.proofs.table.put_head.Tie as tie
+use Rattle.masks.proofs.put_head.Statement.{statement}
+use Rattle.masks.proofs.put_head.Tie as tie
 
 put-header-requires : tie.Need-put-header-requires
 put-header-requires c κs = search needs

@@ -1,4 +1,4 @@
--- `supervisor::table::put_row`: the header, the kept byte and the masks, one after the other. Assumes nothing.
+-- `masks::put_row`: the header, the kept byte and the masks, one after the other. Assumes nothing.
 use mathlib.Core.Path.{ap, _∙_}
 use Prim.Native.Nat.{_+_}
 use native.Mathlib.Omega.{arith}
@@ -6,11 +6,11 @@ use lib.ListN.{length, length-set}
 use lib.Seq.{length-sets}
 use Rattle.records.specs.Lists.{tab}
 use Rattle.rounds.specs.Rounds.{maskOf}
-use Rattle.supervisor.specs.Table.{keptFlag, tableRow}
-use Rattle.supervisor.proofs.Stores.{whole-record}
+use Rattle.masks.specs.Rows.{keptFlag, tableRow}
+use Rattle.masks.proofs.Stores.{whole-record}
 use borrow.Author.Needs.{needs}
-use Rattle.supervisor.proofs.table.put_row.Statement.{statement}
-use Rattle.supervisor.proofs.table.put_row.Tie as tie
+use Rattle.masks.proofs.put_row.Statement.{statement}
+use Rattle.masks.proofs.put_row.Tie as tie
 
 -- the places that the needs look back to
 abbrev start : tie.After-slice-known2 → tie.Start

@@ -1,10 +1,10 @@
--- `supervisor::table::table_length`: at most 256 rows of at most 21 bytes. Assumes nothing.
-use Rattle.supervisor.specs.Table.{tableLength}
+-- `masks::table_length`: at most 256 rows of at most 21 bytes. Assumes nothing.
+use Rattle.masks.specs.Rows.{tableLength}
 use native.Mathlib.Nat.{mul-le-mul}
 use native.Mathlib.Omega.{arith}
 use borrow.Author.Needs.{needs}
-use Rattle.supervisor.proofs.table.table_length.Statement.{statement}
-use Rattle.supervisor.proofs.table.table_length.Tie as tie
+use Rattle.masks.proofs.table_length.Statement.{statement}
+use Rattle.masks.proofs.table_length.Tie as tie
 
 row-length-requires : tie.Need-row-length-requires
 row-length-requires c κs = search needs

@@ -12,7 +12,7 @@ ghost use Rattle.records.specs.Lists.{tab, cat};
 ghost use Rattle.records.specs.Numbers.{u16Bytes};
 ghost use Rattle.records.specs.Cursor.{header};
 ghost use Rattle.rounds.specs.Rounds.{Steps, maskOf};
-ghost use Rattle.supervisor.specs.Table.{keptFlag, rowLength, tableLength, tableRow};
+ghost use Rattle.masks.specs.Rows.{keptFlag, rowLength, tableLength, tableRow};
 
 // The bytes of a row's record.
 pub fn row_length(inputs: usize) -> usize

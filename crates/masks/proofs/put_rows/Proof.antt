@@ -1,13 +1,13 @@
--- `supervisor::table::put_rows`: the records of the states before k are stored. Assumes nothing.
+-- `masks::put_rows`: the records of the states before k are stored. Assumes nothing.
 use mathlib.Core.Path.{sym, _∙_}
 use Prim.Native.Nat.{_+_, _*_, _≤_, _-_}
 use native.Mathlib.Omega.{arith}
 use lib.ListN.{length}
-use Rattle.supervisor.specs.Table.{tableRow}
-use Rattle.supervisor.specs.Bytes.{length-row}
-use Rattle.supervisor.proofs.Stores.{Blocks, no-block, same-blocks, more-blocks, all-blocks, row-inside}
-use Rattle.supervisor.proofs.table.put_rows.Statement.{statement}
-use Rattle.supervisor.proofs.table.put_rows.Tie as tie
+use Rattle.masks.specs.Rows.{tableRow}
+use Rattle.masks.specs.Rows.{length-row}
+use Rattle.masks.proofs.Stores.{Blocks, no-block, same-blocks, more-blocks, all-blocks, row-inside}
+use Rattle.masks.proofs.put_rows.Statement.{statement}
+use Rattle.masks.proofs.put_rows.Tie as tie
 
 abbrev Inv-loop : tie.InvT-loop
 Inv-loop result₀ cells dropped n inputs outputs size k₀ result k =

@@ -1,9 +1,9 @@
--- `supervisor::table::kept_flag`: 1 where no round has dropped the state. Assumes nothing.
+-- `masks::kept_flag`: 1 where no round has dropped the state. Assumes nothing.
 use Rattle.records.specs.Tests.{said}
-use Rattle.supervisor.specs.Table.{keptFlag}
+use Rattle.masks.specs.Rows.{keptFlag}
 use borrow.Author.Needs.{needs}
-use Rattle.supervisor.proofs.table.kept_flag.Statement.{statement}
-use Rattle.supervisor.proofs.table.kept_flag.Tie as tie
+use Rattle.masks.proofs.kept_flag.Statement.{statement}
+use Rattle.masks.proofs.kept_flag.Tie as tie
 
 is-kept-requires : tie.Need-is-kept-requires
 is-kept-requires c κs = search needs

@@ -9,7 +9,7 @@ use lib.ListN.{length, set}
 use lib.Seq.{sets, length-sets}
 use Rattle.records.specs.Lists.{tab, cat, length-tab, tab-snoc, cat-none, cat-more, length-cat, sets-append}
 use Rattle.records.specs.Cursor.{header}
-use Rattle.supervisor.specs.Table.{rowLength, tableLength}
+use Rattle.masks.specs.Rows.{rowLength, tableLength}
 
 -- ---- elements: `now` is `before` with f 0 .. f (i - 1) stored from an index on
 

@@ -1,10 +1,10 @@
--- `supervisor::table::put_masks`: the masks of the inputs before i are stored. Assumes nothing.
+-- `masks::put_masks`: the masks of the inputs before i are stored. Assumes nothing.
 use Prim.Native.Nat.{_≤_, _-_}
 use native.Mathlib.Omega.{arith}
 use Rattle.rounds.specs.Rounds.{maskOf}
-use Rattle.supervisor.proofs.Stores.{Elements, same, none, more, all}
-use Rattle.supervisor.proofs.table.put_masks.Statement.{statement}
-use Rattle.supervisor.proofs.table.put_masks.Tie as tie
+use Rattle.masks.proofs.Stores.{Elements, same, none, more, all}
+use Rattle.masks.proofs.put_masks.Statement.{statement}
+use Rattle.masks.proofs.put_masks.Tie as tie
 
 abbrev Inv-loop : tie.InvT-loop
 Inv-loop result₀ at cells dropped n inputs outputs k i₀ result i =

@@ -1,0 +1,2 @@
+-- The rows of a supervisor table.
+pub mod Rows
