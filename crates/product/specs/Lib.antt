@@ -3,6 +3,7 @@ pub mod Step
 pub mod Stages
 pub mod Range
 pub mod Reads
+pub mod Lines
 pub mod Rewards
 pub mod Tuples
 pub mod States

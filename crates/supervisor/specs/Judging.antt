@@ -210,6 +210,7 @@ module _
     makes reads only =
         record {
           answers = answers;
+          sheet = only;
           too-many = λ w e.
               let x = too-many-iff (sheetOf s) in (
                 λ q. x .1 (seven-says (sheetOf s) _ _ (sym (judged w e) ∙ q)),

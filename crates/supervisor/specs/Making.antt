@@ -11,7 +11,7 @@ use lib.Dec.{ltb, leb, eqb}
 use lib.ListN.{length}
 use lib.Seq.{sets}
 use Rattle.records.specs.Limits.{maxStates}
-use Rattle.sheet.specs.Decoded.{Decoded}
+use Rattle.sheet.specs.Decoded.{Decoded, SheetOk, encode}
 use Rattle.sheet.specs.Layout.{groundNumber}
 use Rattle.sheet.specs.Where.{decoded}
 use Rattle.sheet.specs.Reader.{reading}
@@ -73,6 +73,8 @@ pub record Answers (table : Decoded → List ℕ) (stateCounts : Decoded → ℕ
 -- and what the refusals mean
 pub record Makes (table : Decoded → List ℕ) (stateCounts : Decoded → ℕ) (work : Bool) (s before : List ℕ) (r : Made) (after : List ℕ) : Type 0 where
   pub answers : Answers table stateCounts work s before r after
+  -- the sheet that is spoken of is the one whose bytes were given
+  pub sheet : (d : Decoded) → SheetOk d → encode d ≡ s → sheetOf s ≡ d
   -- where none of 10 and 1 to 6 applies: 7 exactly if there are too many product states
   pub too-many : work ≡ true → sheetNumber s ≡ 0 → (madeNumber r ≡ 7) ↔ TooMany (sheetOf s)
   -- where 7 does not apply either: 8 exactly if the sheet is unrealizable
