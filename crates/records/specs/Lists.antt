@@ -7,7 +7,7 @@ use native.Mathlib.Nat.{not-suc-le-zero, le-of-suc-le-suc, add-suc, add-zero, ad
 use native.Mathlib.Numerals.{add-one}
 use native.Mathlib.Decide.{decLt}
 use native.Mathlib.Omega.{arith}
-use lib.ListN.{length, getD, set, take, drop, length-append, List·getD-append}
+use lib.ListN.{length, getD, set, take, drop, replicate, length-append, List·getD-append}
 use lib.Seq.{ext-getD, sets, sets-eq, length-sets, getD-append-add, getD-set-other, length-take-le}
 use Rattle.records.specs.Bounded.{cases-suc}
 
@@ -96,6 +96,12 @@ getD-put-front (x ∷ d) zero f k e l m = absurd (not-suc-le-zero l)
 getD-put-front (x ∷ d) (suc n) f zero e l m = refl
 getD-put-front (x ∷ d) (suc n) f (suc k) e l m =
     getD-put-front d n (λ j. f (suc j)) k e (le-of-suc-le-suc l) (le-of-suc-le-suc m)
+
+-- the same element put everywhere
+pub put-replicate : (d : List ℕ) (x : ℕ) → put d (length d) (λ k. x) ≡ replicate (length d) x
+unfolding put
+put-replicate [] x = refl
+put-replicate (y ∷ d) x = ap (λ (t : List ℕ). x ∷ t) (put-replicate d x)
 
 -- the elements put back change nothing
 pub put-self : (d : List ℕ) (n : ℕ) → put d n (λ k. getD d k 0) ≡ d

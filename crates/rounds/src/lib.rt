@@ -1,11 +1,11 @@
 // The rounds that drop lost states, over a table of steps, and the masks of allowed outputs.
 // `inputs` and `outputs` are the numbers of inputs and of outputs; `dropped` holds for each state the round, counted
 // from 1, that dropped it, and 0 while it is in.
+use records::clear::clear_front16;
 ghost use mathlib.Core.Path.{_≡_};
 ghost use Prim.Native.Nat.{ℕ, _<_, _≤_};
 ghost use lib.ListN.{length, getD};
 ghost use Rattle.records.specs.Limits.{maxStates};
-ghost use Rattle.records.specs.Lists.{put};
 ghost use Rattle.rounds.specs.Rounds.{Steps, isBroken, cellAt, isIn, leadsIn, stays, maskOf, Settled};
 ghost use Rattle.rounds.specs.Cells.{InRow, Entered, Leads};
 ghost use Rattle.rounds.specs.InPlace.{atStart, drops, Rounded};
@@ -144,25 +144,13 @@ pub fn one_round(
     lost
 }
 
-// All of the first `n` states are in.
-fn all_in(dropped: &mut [u16], n: usize)
-    requires { ⌜ n ≤ length (now dropped) ⌝ }
-    ensures { λ _. ⌜ now (dropped .exit) ≡ put (now (dropped .entry)) n (λ k. 0) ⌝ }
-{
-    let mut k: usize = 0;
-    while k < n {
-        dropped[k] = 0;
-        k += 1;
-    }
-}
-
 // The rounds, to the first that drops nothing; how many states are kept.
 pub fn settle(cells: &[u16], dropped: &mut [u16], n: usize, inputs: usize, outputs: usize) -> usize
     requires { ⌜ Steps (now cells) n inputs outputs ⌝ }
     requires { ⌜ (n ≤ length (now dropped)) × (n ≤ maxStates) ⌝ }
     ensures { λ r. ⌜ Settled (now (cells .entry)) n inputs outputs (now (dropped .entry)) (now (dropped .exit)) r ⌝ }
 {
-    all_in(dropped, n);
+    clear_front16(dropped, n);
     let mut kept = n;
     let mut made: u16 = 0;
     loop {

@@ -1,6 +1,7 @@
 // Value iteration over a table of steps: what each kept state is worth over a horizon.
 // `inputs` and `outputs` are the numbers of inputs and of outputs; `gains` holds for each state what a step to it earns,
 // `bonuses` for each letter what it adds; `factor` is the number of words of inputs that are still to come.
+use records::clear::clear_front64;
 use rounds::cell_at;
 use rounds::is_kept;
 use rounds::leads_to_kept;
@@ -170,18 +171,6 @@ pub fn value_round(
     }
 }
 
-// The first `n` values become 0: nothing is earned in no steps.
-pub fn clear_row(values: &mut [u64], n: usize)
-    requires { ⌜ n ≤ length (now values) ⌝ }
-    ensures { λ _. ⌜ now (values .exit) ≡ put (now (values .entry)) n (λ k. 0) ⌝ }
-{
-    let mut k: usize = 0;
-    while k < n {
-        values[k] = 0;
-        k += 1;
-    }
-}
-
 // The first `n` values become those of `next`.
 pub fn copy_row(values: &mut [u64], next: &[u64], n: usize)
     requires { ⌜ (n ≤ length (now values)) × (n ≤ length (now next)) ⌝ }
@@ -213,7 +202,7 @@ pub fn value_rows(
     ensures row { λ _. ⌜ now (values .exit) ≡ valueRow (gameOf (now (cells .entry)) (now (dropped .entry)) (now (gains .entry)) (now (bonuses .entry)) inputs outputs) n (now (values .entry)) horizon ⌝ }
     ensures words { λ r. ⌜ r ≡ inputs ^ horizon ⌝ }
 {
-    clear_row(values, n);
+    clear_front64(values, n);
     let mut factor: u64 = 1;
     let mut p: u8 = 0;
     while p < horizon {

@@ -19,19 +19,19 @@ head c = c .before .before .before .before
 
 -- the loop begins with all states in, and has made a round more
 begun : (c : tie.After-slice-known2 Inv-loop μ-loop) →
-    Began (entry c .args .n) (entry c .args .dropped .now) (c .before .before .all-in .last .0)
-begun c = record { room = entry c .pre .1 .0; cleared = c .before .before .all-in .ensures }
+    Began (entry c .args .n) (entry c .args .dropped .now) (c .before .before .clear-front16 .last .0)
+begun c = record { room = entry c .pre .1 .0; cleared = c .before .before .clear-front16 .ensures }
 
 turned : (c : tie.After-slice-known3 Inv-loop μ-loop) →
     let a = entry (head c .before) .args in
     let at = head c .loop in
     let made = c .before .before .one-round in
-    Turned (a .cells .now) (a .n) (a .inputs) (a .outputs) (a .dropped .now) (head c .before .before .before .all-in .last .0)
+    Turned (a .cells .now) (a .n) (a .inputs) (a .outputs) (a .dropped .now) (head c .before .before .before .clear-front16 .last .0)
     (at .dropped) (made .last .1 .0) (at .kept) (at .made) (made .result)
 turned c = record { began = begun (head c .before); inv = head c .loop .inv; turn = c .before .before .one-round .ensures }
 
-all-in-requires : tie.Need-all-in-requires Inv-loop μ-loop
-all-in-requires c κs = omega arith
+clear-front16-requires : tie.Need-clear-front16-requires Inv-loop μ-loop
+clear-front16-requires c κs = omega arith
 
 loop-holds : tie.Need-loop-holds Inv-loop μ-loop
 loop-holds c = begin _ _ _ _ (begun c)
@@ -68,7 +68,7 @@ settle-spec =
     (tie.spec
     Inv-loop
     μ-loop
-    all-in-requires
+    clear-front16-requires
     loop-holds
     add-one-round
     one-round-requires

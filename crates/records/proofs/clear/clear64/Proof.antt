@@ -1,42 +1,18 @@
--- `records::clear::clear64`: the elements before i are 0, and the others are as they were. Assumes nothing.
-use Prim.Native.Nat.{_-_}
-use native.Mathlib.Omega.{arith}
+-- `records::clear::clear64`: the front that is the whole. Assumes nothing.
+use mathlib.Core.Path.{_∙_}
 use borrow.Author.Needs.{needs}
-use lib.ListN.{length, length-set}
-use Rattle.records.proofs.Clearing.{Cleared, begin, more, same, end}
+use Rattle.records.specs.Lists.{put-replicate}
 use Rattle.records.proofs.clear.clear64.Statement.{statement}
 use Rattle.records.proofs.clear.clear64.Tie as tie
 
-abbrev Inv-loop : tie.InvT-loop
-Inv-loop work₀ i₀ work i = Cleared work₀ work i
+clear-front64-requires : tie.Need-clear-front64-requires
+clear-front64-requires c κs = search needs
 
-abbrev μ-loop : tie.MeasureT-loop
-μ-loop work₀ i₀ work i = length work - i
+same-length : tie.Need-same-length
+same-length c = search needs
 
-loop-holds : tie.Need-loop-holds Inv-loop μ-loop
-loop-holds c = begin _
-
-mul-work : tie.Need-mul-work Inv-loop μ-loop
-mul-work c = search needs
-
-slice-write-work : tie.Need-slice-write-work Inv-loop μ-loop
-slice-write-work c = omega arith
-
-add-i : tie.Need-add-i Inv-loop μ-loop
-add-i c = omega (arith, same (c .before .loop .inv))
-
-loop-less : tie.Need-loop-less Inv-loop μ-loop
-loop-less c = simp length-set (omega arith)
-
-loop-again : tie.Need-loop-again Inv-loop μ-loop
-loop-again c = more (c .before .loop .inv) (c .loop-test .taken)
-
-same-length : tie.Need-same-length Inv-loop μ-loop
-same-length c = same (c .before .loop .inv)
-
-returns : tie.Need-returns Inv-loop μ-loop
-returns c = end (c .before .loop .inv) (c .loop-test .left)
+returns : tie.Need-returns
+returns c = c .before .before .clear-front64 .ensures ∙ put-replicate _ 0
 
 pub clear64-spec : {M : Type 1} → statement M
-clear64-spec =
-    tie.close (tie.spec Inv-loop μ-loop loop-holds mul-work slice-write-work add-i loop-less loop-again same-length returns)
+clear64-spec = tie.close (tie.spec clear-front64-requires same-length returns)

@@ -17,10 +17,10 @@ abbrev μ-loop : tie.MeasureT-loop
 μ-loop cells dropped gains bonuses inputs outputs n values₀ next₀ horizon factor₀ p₀ values next factor p = horizon - p
 
 -- the places: the function's start, the cleared row, and the head of a turn
-abbrev entry : tie.After-clear-row Inv-loop μ-loop → tie.Start Inv-loop μ-loop
+abbrev entry : tie.After-clear-front64 Inv-loop μ-loop → tie.Start Inv-loop μ-loop
 entry c = c .before .before .before .before .before .before .before .before
 
-abbrev cleared : tie.At-loop Inv-loop μ-loop → tie.After-clear-row Inv-loop μ-loop
+abbrev cleared : tie.At-loop Inv-loop μ-loop → tie.After-clear-front64 Inv-loop μ-loop
 cleared c = c .before .before .before
 
 abbrev head : tie.After-copy-row Inv-loop μ-loop → tie.At-loop Inv-loop μ-loop
@@ -29,13 +29,13 @@ head c = c .before .before .before .before .before .before .before .before .befo
 abbrev game : tie.Start Inv-loop μ-loop → Game
 game s = gameOf (s .args .cells .now) (s .args .dropped .now) (s .args .gains .now) (s .args .bonuses .now) (s .args .inputs) (s .args .outputs)
 
-fits : (c : tie.After-clear-row Inv-loop μ-loop)
-    → Fits (game (entry c)) (entry c .args .n) (entry c .args .horizon) (c .clear-row .last .0) (entry c .args .next .now)
+fits : (c : tie.After-clear-front64 Inv-loop μ-loop)
+    → Fits (game (entry c)) (entry c .args .n) (entry c .args .horizon) (c .clear-front64 .last .0) (entry c .args .next .now)
 fits c =
     let p = entry c .pre in
     record {
       sized = p .0;
-      rows = omega (arith, c .clear-row .kept .0, p .1 .0 .0);
+      rows = omega (arith, c .clear-front64 .kept .0, p .1 .0 .0);
       spares = p .1 .0 .1;
       steps = p .1 .1 .0;
       few = p .1 .1 .1;
@@ -44,11 +44,11 @@ fits c =
 spare : (c : tie.At-loop Inv-loop μ-loop) → entry (cleared c) .args .n ≤ length (c .loop .next)
 spare c = omega (arith, c .loop .inv .room, fits (cleared c) .spares)
 
-clear-row-requires : tie.Need-clear-row-requires Inv-loop μ-loop
-clear-row-requires c κs = omega arith
+clear-front64-requires : tie.Need-clear-front64-requires Inv-loop μ-loop
+clear-front64-requires c κs = omega arith
 
 loop-holds : tie.Need-loop-holds Inv-loop μ-loop
-loop-holds c = begin _ _ _ _ _ (c .before .before .clear-row .ensures)
+loop-holds c = begin _ _ _ _ _ (c .before .before .clear-front64 .ensures)
 
 value-round-requires : tie.Need-value-round-requires Inv-loop μ-loop
 value-round-requires c κs = let h = c .before .before .before in
@@ -77,13 +77,13 @@ loop-again c = let h = head (c .before .before) in
     (c .before .before .before .before .before .before .before .value-round .ensures) (c .before .before .copy-row .ensures)
 
 same-length : tie.Need-same-length Inv-loop μ-loop
-same-length c = same (fits (cleared (c .before))) (c .before .loop .inv) ∙ cleared (c .before) .clear-row .kept .0
+same-length c = same (fits (cleared (c .before))) (c .before .loop .inv) ∙ cleared (c .before) .clear-front64 .kept .0
 
 same-length-2 : tie.Need-same-length-2 Inv-loop μ-loop
 same-length-2 c = c .before .loop .inv .room
 
 returns : tie.Need-returns Inv-loop μ-loop
-returns c = end (fits (cleared (c .before))) (c .before .loop .inv) _ (cleared (c .before) .clear-row .ensures) (c .loop-test .left)
+returns c = end (fits (cleared (c .before))) (c .before .loop .inv) _ (cleared (c .before) .clear-front64 .ensures) (c .loop-test .left)
 
 pub value-rows-spec : {M : Type 1} → statement M
 value-rows-spec =
@@ -91,7 +91,7 @@ value-rows-spec =
     (tie.spec
     Inv-loop
     μ-loop
-    clear-row-requires
+    clear-front64-requires
     loop-holds
     value-round-requires
     copy-row-requires

@@ -1,26 +1,26 @@
--- `values::guard::clear_numbers`: the entries before k are 0. Assumes nothing.
+-- `records::clear::clear_front64`: the elements before k are 0. Assumes nothing.
 use mathlib.Core.Path.{_≡_, sym, _∙_}
 use Prim.Native.Nat.{_-_, _≤_}
 use native.Mathlib.Omega.{arith}
 use borrow.Author.Needs.{needs}
 use Rattle.records.specs.Lists.{put, put-none, put-more, length-put}
-use Rattle.values.proofs.guard.clear_numbers.Statement.{statement}
-use Rattle.values.proofs.guard.clear_numbers.Tie as tie
+use Rattle.records.proofs.clear.clear_front64.Statement.{statement}
+use Rattle.records.proofs.clear.clear_front64.Tie as tie
 
 abbrev Inv-loop : tie.InvT-loop
-Inv-loop numbers₀ n k₀ numbers k = (k ≤ n) × (numbers ≡ put numbers₀ k (λ j. 0))
+Inv-loop work₀ n k₀ work k = (k ≤ n) × (work ≡ put work₀ k (λ j. 0))
 
 abbrev μ-loop : tie.MeasureT-loop
-μ-loop numbers₀ n k₀ numbers k = n - k
+μ-loop work₀ n k₀ work k = n - k
 
 loop-holds : tie.Need-loop-holds Inv-loop μ-loop
 loop-holds c = (omega arith, sym (put-none _ _))
 
-mul-numbers : tie.Need-mul-numbers Inv-loop μ-loop
-mul-numbers c = search needs
+mul-work : tie.Need-mul-work Inv-loop μ-loop
+mul-work c = search needs
 
-slice-write-numbers : tie.Need-slice-write-numbers Inv-loop μ-loop
-slice-write-numbers c = rw (c .before .loop .inv .1, length-put) (omega arith)
+slice-write-work : tie.Need-slice-write-work Inv-loop μ-loop
+slice-write-work c = rw (c .before .loop .inv .1, length-put) (omega arith)
 
 add-k : tie.Need-add-k Inv-loop μ-loop
 add-k c = omega arith
@@ -37,15 +37,15 @@ same-length c = rw (c .before .loop .inv .1, length-put)
 returns : tie.Need-returns Inv-loop μ-loop
 returns c = let e : c .before .loop .k ≡ c .before .before .args .n = omega arith in c .before .loop .inv .1 ∙ rw e
 
-pub clear-numbers-spec : {M : Type 1} → statement M
-clear-numbers-spec =
+pub clear-front64-spec : {M : Type 1} → statement M
+clear-front64-spec =
     tie.close
     (tie.spec
     Inv-loop
     μ-loop
     loop-holds
-    mul-numbers
-    slice-write-numbers
+    mul-work
+    slice-write-work
     add-k
     loop-less
     loop-again
