@@ -24,7 +24,8 @@ use Rattle.product.specs.NumberedLaws.{some-state}
 use Rattle.game.specs.Numbering.{Reach, here, there, met, meet, visit, explore, explore-reached, find}
 use Rattle.game.specs.Reachable.{letter-low}
 use Rattle.game.specs.Choice.{choose-cong}
-use Rattle.rounds.specs.Rounds.{Steps, isBroken, cellAt, isIn, leadsIn}
+use Rattle.records.specs.Cells.{isBroken}
+use Rattle.rounds.specs.Rounds.{Steps, cellAt, isIn, leadsIn}
 use Rattle.rounds.specs.Cells.{cell-in}
 use Rattle.rounds.specs.Agree.{in-agree, leads-agree}
 use Rattle.supervisor.specs.Table.{droppedOf}

@@ -16,7 +16,8 @@ use Rattle.game.specs.Rounds.{keptAfter, may}
 use Rattle.game.specs.Reachable.{letter-low, letter-input, letter-output}
 use Rattle.game.specs.Naming.{Names}
 use Rattle.game.specs.Value.{value, score, choice}
-use Rattle.rounds.specs.Rounds.{isBroken, isIn, leadsIn}
+use Rattle.records.specs.Cells.{isBroken}
+use Rattle.rounds.specs.Rounds.{isIn, leadsIn}
 use Rattle.supervisor.specs.Table.{cellsOf, droppedOf}
 use Rattle.supervisor.specs.Numbered.{goes, passes, leads-game}
 use Rattle.supervisor.specs.Entries.{sheet-steps, numbers-name, in-kept}

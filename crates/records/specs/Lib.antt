@@ -4,6 +4,7 @@ pub mod Bounded
 pub mod Bits
 pub mod Lists
 pub mod Numbers
+pub mod Cells
 pub mod Cursor
 pub mod Limits
 pub mod Layout

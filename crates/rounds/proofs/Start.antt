@@ -9,7 +9,8 @@ use lib.ListN.{length, getD}
 use borrow.Author.Tests.{eqb-true, eq-eqb, ne-eqb}
 use Rattle.records.specs.Tests.{by-test}
 use Rattle.records.specs.Lists.{put-ext, put-self, getD-put-front}
-use Rattle.rounds.specs.Rounds.{isBroken, isIn, leadsIn}
+use Rattle.records.specs.Cells.{isBroken}
+use Rattle.rounds.specs.Rounds.{isIn, leadsIn}
 use Rattle.rounds.specs.InPlace.{atStart}
 
 start-at : (r : ℕ) (d : List ℕ) (k : ℕ) → k < length d

@@ -10,7 +10,8 @@ use borrow.Author.Tests.{eqb-false}
 use Rattle.records.specs.Tests.{by-test}
 use Rattle.records.specs.Bounded.{all-cong, any-cong, sum-cong, count-cong}
 use Rattle.records.specs.Lists.{getD-put-front}
-use Rattle.rounds.specs.Rounds.{Steps, isBroken, isIn, leadsIn, answered, stays, entryAfter, rounds, settled, keptCount, maskOf}
+use Rattle.records.specs.Cells.{isBroken}
+use Rattle.rounds.specs.Rounds.{Steps, isIn, leadsIn, answered, stays, entryAfter, rounds, settled, keptCount, maskOf}
 use Rattle.rounds.specs.Cells.{cell-in}
 use Rattle.rounds.specs.Laws.{round-at, length-rounds}
 

@@ -16,7 +16,8 @@ use Rattle.records.specs.Tests.{by-test, and-left, and-right}
 use Rattle.records.specs.Bounded.{all-cong, any-cong, count-le, count-mono, count-tight}
 use Rattle.records.specs.Lists.{put-ext, put-self, length-put, getD-put-front, getD-put-rest}
 use Rattle.rounds.specs.Cells.{cell-in}
-use Rattle.rounds.specs.Rounds.{Steps, isBroken, isIn, leadsIn, answered, stays, entryAfter, round, rounds, settled, keptCount}
+use Rattle.records.specs.Cells.{isBroken}
+use Rattle.rounds.specs.Rounds.{Steps, isIn, leadsIn, answered, stays, entryAfter, round, rounds, settled, keptCount}
 
 -- ---- which states count
 

@@ -11,14 +11,7 @@ use lib.Dec.{eqb}
 use lib.ListN.{length, getD}
 use Rattle.records.specs.Bounded.{all, any, sum, count}
 use Rattle.records.specs.Lists.{put}
-
--- what stands for a broken step
-abbrev pub brokenCell : ℕ
-brokenCell = 65535
-
--- the step of a cell is broken
-abbrev pub isBroken : ℕ → Bool
-isBroken cell = eqb cell brokenCell
+use Rattle.records.specs.Cells.{brokenCell, isBroken}
 
 -- the table has n rows, and every unbroken step leads to one of the n states
 pub record Steps (cells : List ℕ) (n inputs outputs : ℕ) : Type 0 where

@@ -1,31 +1,15 @@
 // The rounds that drop lost states, over a table of steps, and the masks of allowed outputs.
 // `inputs` and `outputs` are the numbers of inputs and of outputs; `dropped` holds for each state the round, counted
 // from 1, that dropped it, and 0 while it is in.
+use records::cells::is_broken;
 use records::clear::clear_front16;
 ghost use mathlib.Core.Path.{_≡_};
 ghost use Prim.Native.Nat.{ℕ, _<_, _≤_};
 ghost use lib.ListN.{length, getD};
 ghost use Rattle.records.specs.Limits.{maxStates};
-ghost use Rattle.rounds.specs.Rounds.{Steps, isBroken, cellAt, isIn, leadsIn, stays, maskOf, Settled};
+ghost use Rattle.rounds.specs.Rounds.{Steps, cellAt, isIn, leadsIn, stays, maskOf, Settled};
 ghost use Rattle.rounds.specs.Cells.{InRow, Entered, Leads};
 ghost use Rattle.rounds.specs.InPlace.{atStart, drops, Rounded};
-
-// A cell of the table of steps.
-pub struct Cell {
-    pub next: u16,
-}
-
-impl Cell {
-    // What a cell holds where the step is broken.
-    pub const BROKEN: u16 = 65535;
-}
-
-// Whether a cell says that its step is broken.
-pub fn cell_is_broken(cell: u16) -> bool
-    ensures { λ r. ⌜ r ≡ isBroken cell ⌝ }
-{
-    cell == Cell::BROKEN
-}
 
 // Where the cell of a state, an input and an output stands.
 pub fn cell_at(inputs: usize, outputs: usize, k: usize, i: usize, o: usize) -> usize
@@ -49,7 +33,7 @@ pub fn cell_leads(cells: &[u16], dropped: &[u16], round: u16, at: usize) -> bool
     ensures { λ r. ⌜ r ≡ leadsIn (now (cells .entry)) (atStart round (now (dropped .entry))) at ⌝ }
 {
     let cell = cells[at];
-    if cell_is_broken(cell) {
+    if is_broken(cell) {
         return false;
     }
     let dropped_by = dropped[cell as usize];

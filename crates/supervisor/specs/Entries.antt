@@ -23,7 +23,8 @@ use Rattle.product.specs.NumberedLaws.{reached-number, number-state, step-numbe
 use Rattle.game.specs.Rounds.{keptAfter, droppedBy, may, Quiet, quiet-on, kept-dropped, kept-iff, lost-iff, allowed-iff}
 use Rattle.game.specs.Naming.{Names, dropped-named}
 use Rattle.game.specs.Reachable.{letter-low, letter-input, letter-output, input-low, output-low, reachable-closed}
-use Rattle.rounds.specs.Rounds.{Steps, brokenCell, cellAt, isIn, leadsIn, rounds, settled}
+use Rattle.records.specs.Cells.{brokenCell}
+use Rattle.rounds.specs.Rounds.{Steps, cellAt, isIn, leadsIn, rounds, settled}
 use Rattle.supervisor.specs.Meaning.{Kept, Lost, Allowed}
 use Rattle.supervisor.specs.Table.{cellsOf, droppedOf}
 use Rattle.supervisor.specs.Numbered.{goes, passes, leads-game, rounds-game}

@@ -11,7 +11,8 @@ use borrow.Author.Tests.{eqb-false}
 use Rattle.records.specs.Tests.{by-test}
 use Rattle.records.specs.Bounded.{all-cong, any-cong}
 use Rattle.records.specs.Lists.{getD-put-front}
-use Rattle.rounds.specs.Rounds.{Steps, isBroken, cellAt, isIn, leadsIn, answered, stays, entryAfter, rounds}
+use Rattle.records.specs.Cells.{isBroken}
+use Rattle.rounds.specs.Rounds.{Steps, cellAt, isIn, leadsIn, answered, stays, entryAfter, rounds}
 use Rattle.rounds.specs.Cells.{cell-in}
 use Rattle.rounds.specs.Laws.{round-at, length-rounds}
 use Rattle.game.specs.Rounds.{keeps, keptAfter, droppedBy, kept-dropped}

@@ -11,7 +11,8 @@ use lib.Arith.{digits-lt}
 use lib.ListN.{length, getD}
 use Rattle.records.specs.Tests.{and-left, and-right}
 use Rattle.records.specs.Bounded.{top}
-use Rattle.rounds.specs.Rounds.{Steps, brokenCell, isBroken, cellAt, isIn, leadsIn}
+use Rattle.records.specs.Cells.{brokenCell, isBroken}
+use Rattle.rounds.specs.Rounds.{Steps, cellAt, isIn, leadsIn}
 use Rattle.rounds.specs.Cells.{Entered, cell-in}
 use Rattle.values.specs.Values.{Game, Sized, mayGive, nextOf, scoreOf, earns}
 

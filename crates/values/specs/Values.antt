@@ -10,6 +10,7 @@ use lib.Dec.{eqb}
 use lib.ListN.{length, getD}
 use Rattle.records.specs.Bounded.{sum, top}
 use Rattle.records.specs.Lists.{put}
+use Rattle.records.specs.Cells.{brokenCell}
 use Rattle.game.specs.Choice.{choose}
 use Rattle.rounds.specs.Rounds.{cellAt, isIn, leadsIn}
 use Rattle.values.specs.Order.{rank}
@@ -66,7 +67,7 @@ pub record Sized (g : Game) (n : ℕ) : Type 0 where
   pub outputs-most : g .outputs ≤ 8
   pub states : n ≤ 256
   pub rows : n * (g .inputs * g .outputs) ≤ length (g .cells)
-  pub inside : (at : ℕ) → at < n * (g .inputs * g .outputs) → (getD (g .cells) at 0 ≡ 65535 → ⊥) → getD (g .cells) at 0 < n
+  pub inside : (at : ℕ) → at < n * (g .inputs * g .outputs) → (getD (g .cells) at 0 ≡ brokenCell → ⊥) → getD (g .cells) at 0 < n
   pub dropped : n ≤ length (g .dropped)
   pub gains : n ≤ length (g .gains)
   pub gain : (k : ℕ) → k < n → getD (g .gains) k 0 ≤ 1530

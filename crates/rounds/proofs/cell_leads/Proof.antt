@@ -6,7 +6,8 @@ use lib.ListN.{length, getD}
 use mathlib.Core.Path.{_≡_}
 use mathlib.Core.Bool.{false}
 use Rattle.records.specs.Tests.{said}
-use Rattle.rounds.specs.Rounds.{isBroken, isIn}
+use Rattle.records.specs.Cells.{isBroken}
+use Rattle.rounds.specs.Rounds.{isIn}
 use Rattle.rounds.proofs.Start.{leads-broken, leads-back, leads-else}
 use borrow.Author.Needs.{needs}
 use Rattle.rounds.proofs.cell_leads.Statement.{statement}
@@ -17,7 +18,7 @@ entry c = c .before .before .before .before .before
 
 -- past the first test the step is unbroken, and leads to a state that has an entry
 unbroken : (c : tie.Else1) → isBroken (getD (entry c .args .cells .now) (entry c .args .at) 0) ≡ false
-unbroken c = said (c .before .cell-is-broken .ensures) (c .if1 .left)
+unbroken c = said (c .before .is-broken .ensures) (c .if1 .left)
 
 target : (c : tie.Else1) → getD (entry c .args .cells .now) (entry c .args .at) 0 < length (entry c .args .dropped .now)
 target c = entry c .pre .target (eqb-false _ _ (unbroken c))
@@ -28,11 +29,11 @@ mul-cell c = search needs
 shared-slice-read-cell : tie.Need-shared-slice-read-cell
 shared-slice-read-cell c = search needs
 
-cell-is-broken-requires : tie.Need-cell-is-broken-requires
-cell-is-broken-requires c κs = search needs
+is-broken-requires : tie.Need-is-broken-requires
+is-broken-requires c κs = search needs
 
 returns : tie.Need-returns
-returns c = leads-broken _ _ _ _ (said (c .before .cell-is-broken .ensures) (c .if1 .taken))
+returns c = leads-broken _ _ _ _ (said (c .before .is-broken .ensures) (c .if1 .taken))
 
 cast-dropped-by : tie.Need-cast-dropped-by
 cast-dropped-by c = omega (arith, target c)
@@ -56,7 +57,7 @@ cell-leads-spec =
     (tie.spec
     mul-cell
     shared-slice-read-cell
-    cell-is-broken-requires
+    is-broken-requires
     returns
     cast-dropped-by
     mul-dropped-by
