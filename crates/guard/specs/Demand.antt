@@ -15,7 +15,7 @@ use Rattle.board.specs.Board.{live}
 use Rattle.board.specs.declared.Board.{Board}
 use Rattle.guard.specs.Meaning.{Move, strays, after, says, Shows, Faithful}
 use Rattle.guard.specs.Table.{guardCount, outputOf, nextOf, guardOver}
-use Rattle.guard.specs.Reaching.{Winning}
+use Rattle.plan.specs.Reaching.{Winning}
 use Rattle.guard.specs.Representing.{tuplesOf, start-winning, move-winning, move-is, represents}
 use Rattle.guard.specs.Running.{Stands, runs, stands-shows}
 

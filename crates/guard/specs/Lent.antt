@@ -2,11 +2,13 @@
 -- Assumes nothing.
 use mathlib.Core.Path.{_≡_}
 use mathlib.Core.Bool.{true}
+use mathlib.Core.List.{List}
 use Prim.Native.Nat.{ℕ, _≤_}
+use lib.ListN.{length}
 use borrow.Author.Tests.{leb-true}
 use Rattle.records.specs.Tests.{and-left, and-right}
-use Rattle.supervisor.specs.Promises.{tuplesLength, cellsLength, droppedLength}
-use Rattle.guard.specs.Promises.{gainsLength, bonusesLength, valuesLength, choicesLength, orderLength, Work, workOk}
+use Rattle.plan.specs.Planned.{Room}
+use Rattle.guard.specs.Promises.{Work, workOk}
 
 -- the lengths that were lent
 abbrev pub lent : ℕ → ℕ → ℕ → ℕ → ℕ → ℕ → ℕ → ℕ → ℕ → ℕ → Work
@@ -24,31 +26,22 @@ lent tuples cells dropped gains bonuses values next choices order numbers =
       numbers = numbers;
     }
 
--- each is long enough
-pub record Long (w : Work) : Type 0 where
-  pub tuples : tuplesLength ≤ w .tuples
-  pub cells : cellsLength ≤ w .cells
-  pub dropped : droppedLength ≤ w .dropped
-  pub gains : gainsLength ≤ w .gains
-  pub bonuses : bonusesLength ≤ w .bonuses
-  pub values : valuesLength ≤ w .values
-  pub next : valuesLength ≤ w .next
-  pub choices : choicesLength ≤ w .choices
-  pub order : orderLength ≤ w .order
-  pub numbers : orderLength ≤ w .numbers
-
-pub work-long : (w : Work) → workOk w ≡ true → Long w
+-- slices of these lengths are long enough for every sheet
+pub work-room : (tuples cells dropped gains bonuses values next choices order numbers : List ℕ)
+    → workOk (lent (length tuples) (length cells) (length dropped) (length gains) (length bonuses) (length values) (length next)
+    (length choices) (length order) (length numbers)) ≡ true
+    → Room tuples cells dropped gains bonuses values next choices order numbers
 unfolding workOk
-work-long w e =
+work-room tuples cells dropped gains bonuses values next choices order numbers e =
     record {
-      tuples = leb-true _ _ (search (and-left, and-right) depth 12);
-      cells = leb-true _ _ (search (and-left, and-right) depth 12);
-      dropped = leb-true _ _ (search (and-left, and-right) depth 12);
-      gains = leb-true _ _ (search (and-left, and-right) depth 12);
-      bonuses = leb-true _ _ (search (and-left, and-right) depth 12);
-      values = leb-true _ _ (search (and-left, and-right) depth 12);
-      next = leb-true _ _ (search (and-left, and-right) depth 12);
-      choices = leb-true _ _ (search (and-left, and-right) depth 12);
-      order = leb-true _ _ (search (and-left, and-right) depth 12);
-      numbers = leb-true _ _ (search (and-left, and-right) depth 12);
+      tuples-long = leb-true _ _ (and-left _ _ e);
+      cells-long = leb-true _ _ (search (and-left, and-right) depth 12);
+      dropped-long = leb-true _ _ (search (and-left, and-right) depth 12);
+      gains-long = leb-true _ _ (search (and-left, and-right) depth 12);
+      bonuses-long = leb-true _ _ (search (and-left, and-right) depth 12);
+      values-long = leb-true _ _ (search (and-left, and-right) depth 12);
+      next-long = leb-true _ _ (search (and-left, and-right) depth 12);
+      choices-long = leb-true _ _ (search (and-left, and-right) depth 12);
+      order-long = leb-true _ _ (search (and-left, and-right) depth 12);
+      numbers-long = leb-true _ _ (search (and-left, and-right) depth 12);
     }

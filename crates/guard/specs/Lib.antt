@@ -1,16 +1,11 @@
--- The guard of a sheet: demand 3 (Meaning), the model of its table (Table), what its maker promises (Promises).
+-- The guard of a sheet: demand 3 (Meaning), the model of its table (Table), what its maker promises (Promises). The rest are laws.
 pub mod Meaning
 pub mod Table
 pub mod Promises
-pub mod Playing
-pub mod Best
-pub mod Reaching
+-- the model has the meaning: its states stand for tuples, and the board runs it
 pub mod Representing
 pub mod Running
 pub mod Demand
+-- this maker's promise, and its work memory
 pub mod Written
-pub mod Agree
-pub mod Solved
-pub mod Entered
-pub mod Planned
 pub mod Lent

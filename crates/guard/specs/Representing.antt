@@ -20,8 +20,8 @@ use Rattle.values.specs.Order.{Higher, rank}
 use Rattle.values.specs.Ranks.{rank-order, rank-injective}
 use Rattle.guard.specs.Meaning.{Move}
 use Rattle.guard.specs.Table.{guardOf, guardCount, outputOf, nextOf}
-use Rattle.guard.specs.Playing.{choiceAt}
-use Rattle.guard.specs.Reaching.{Winning, guard-some, guard-first, next-low, output-is, next-tuple}
+use Rattle.plan.specs.Playing.{choiceAt}
+use Rattle.plan.specs.Reaching.{Winning, guard-some, guard-first, next-low, output-is, next-tuple}
 
 -- the tuples of the guard's states
 abbrev pub tuplesOf : Decoded → ℕ → List (List ℕ)

@@ -8,11 +8,11 @@ use native.Mathlib.Omega.{arith}
 use lib.Dec.{eqb}
 use lib.ListN.{length}
 use borrow.Author.Tests.{eqb-true, eqb-false, le-leb}
-use Rattle.records.specs.Tests.{by-test, or-left, or-right, and-both}
+use Rattle.records.specs.Tests.{by-test, or-left, or-right}
 use Rattle.records.specs.Limits.{maxStates, maxSteps, linesOk, horizonOk}
 use Rattle.records.specs.GuardTable.{HeadReads, table-head}
 use Rattle.sheet.specs.Decoded as decoded
-use Rattle.sheet.specs.Decoded.{Decoded, HeadOk, HorizonOk, inputLines}
+use Rattle.sheet.specs.Decoded.{Decoded, HeadOk, inputLines}
 use Rattle.product.specs.Step.{inputsOf, proposal, differs}
 use Rattle.product.specs.Numbered.{stateCount}
 use Rattle.game.specs.History as history
@@ -35,7 +35,7 @@ use Rattle.board.specs.declared.answers.Stepping.{Stepping}
 use Rattle.board.specs.declared.answers.Changing.{Changing}
 use Rattle.guard.specs.Meaning.{strays, after, says, Shows}
 use Rattle.guard.specs.Table.{guardCount, outputOf, nextOf, guardOver}
-use Rattle.guard.specs.Reaching.{guard-some, guard-fits, next-low, output-low}
+use Rattle.plan.specs.Reaching.{guard-some, guard-fits, next-low, output-low}
 
 -- ---- the head's bounds
 
@@ -60,11 +60,6 @@ head-lines d ok =
   where
     shield : eqb (d .mode) 0 ≡ false → d .mode ≡ 1
     shield y = let n : d .mode ≡ 0 → ⊥ = eqb-false (d .mode) 0 y in omega (arith, ok .mode)
-
--- and so is the horizon
-pub sheet-horizon : (d : Decoded) → HorizonOk d → horizonOk (inputLines d) (d .horizon) ≡ true
-unfolding horizonOk
-sheet-horizon d ok = and-both _ _ (le-leb _ _ (ok .most)) (le-leb _ _ (ok .product-most))
 
 -- the board counts as a deviation what the sheet does
 pub deviates-strays : (d : Decoded) (i o : ℕ)

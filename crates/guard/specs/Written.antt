@@ -1,4 +1,4 @@
--- The maker of guard tables: the table's length, and the maker's whole promise from its answer by the model.
+-- The maker's whole promise, from its answer by the model.
 -- Assumes nothing.
 use mathlib.Core.Path.{_≡_, sym, ap₂, _∙_, subst}
 use mathlib.Core.List.{List}
@@ -8,9 +8,7 @@ use lib.ListN.{length, take}
 use lib.Seq.{sets, take-append-seam}
 use Rattle.records.specs.Lists.{sets-front}
 use Rattle.records.specs.Numbers.{Bytes}
-use Rattle.records.specs.Layout.{tableLength}
-use Rattle.records.specs.GuardTable.{length-table}
-use Rattle.sheet.specs.Decoded.{Decoded, SheetOk, inputLines}
+use Rattle.sheet.specs.Decoded.{Decoded, SheetOk}
 use Rattle.sheet.specs.Layout.{verdictNumber}
 use Rattle.sheet.specs.Reader.{reading}
 use Rattle.sheet.specs.Promises.{Reads}
@@ -20,20 +18,10 @@ use Rattle.supervisor.specs.Grounds.{start-in}
 use Rattle.supervisor.specs.Judging.{Only, made-says, makes}
 use Rattle.supervisor.specs.declared.make.Made.{Made}
 use Rattle.guard.specs.Meaning.{Faithful}
-use Rattle.guard.specs.Table.{guardCount, outputOf, nextOf, guardOver, guardTableOf}
+use Rattle.guard.specs.Table.{guardTableOf}
 use Rattle.guard.specs.Promises.{Work, workOk, guardStates, MakesGuard}
-use Rattle.guard.specs.Running.{sheet-horizon}
+use Rattle.plan.specs.Solved.{sheet-horizon}
 use Rattle.guard.specs.Demand.{faithful}
-
--- a guard table is as long as the layout says
-pub length-over : (d : Decoded) (h : ℕ) → length (guardOver d h) ≡ tableLength (inputLines d) (guardCount d h)
-unfolding guardOver
-length-over d h = length-table (d .mode) (inputLines d) (d .outputs) h (guardCount d h) (outputOf d h) (nextOf d h)
-
--- so is a sheet's
-pub length-guard : (d : Decoded) → length (guardTableOf d) ≡ tableLength (inputLines d) (guardStates d)
-unfolding guardTableOf
-length-guard d = length-over d (d .horizon)
 
 -- a table that fits is what the result begins with
 front : (before table : List ℕ) → length table ≤ length before → take (length table) (sets before 0 table) ≡ table

@@ -1,9 +1,14 @@
 -- `guard::make::Guard::make`: the whole promise from the answer by the model, and each slice cleared. Assumes nothing.
-use mathlib.Core.Path.{ap, _∙_}
+use mathlib.Core.Path.{sym, ap, _∙_, subst}
+use mathlib.Core.Bool.{Bool}
 use native.Mathlib.Omega.{arith}
+use lib.ListN.{length}
 use Rattle.records.specs.Numbers.{zeros}
+use Rattle.supervisor.specs.Making.{Answers}
+use Rattle.guard.specs.Table.{guardTableOf}
+use Rattle.guard.specs.Promises.{Work, guardStates, MakesGuard}
+use Rattle.guard.specs.Lent.{lent, work-room}
 use Rattle.guard.specs.Written.{guard-promise}
-use borrow.Author.Needs.{needs}
 use Rattle.guard.proofs.make.Guard.make.Statement.{statement}
 use Rattle.guard.proofs.make.Guard.make.Tie as tie
 
@@ -41,97 +46,122 @@ tuples c = cells c .before .before .before .before
 abbrev made : tie.After-slice-known32 → tie.After-make-with
 made c = tuples c .before .before .before .before .before .before .before .before .before .before .before .before .before .before .before .before .before .before .before .before .before .before .before .before
 
-abbrev entered : tie.After-make-with → tie.After-shared-slice-known
-entered c = c .before .before .before .before .before .before .before .before .before .before .before .before .before .before .before .before .before .before .before .before .before .before .before
+abbrev tested : tie.After-make-with → tie.After-work-ok
+tested c = c .before .before .before .before .before .before .before .before .before .before .before .before
+
+abbrev entered : tie.After-work-ok → tie.After-shared-slice-known
+entered c = c .before .before .before .before .before .before .before .before .before .before .before .before
+
+-- the work memory's lengths
+abbrev work : tie.Start → Work
+work c =
+    let a = c .args in
+    lent (length (a .tuples .now)) (length (a .cells .now)) (length (a .dropped .now)) (length (a .gains .now)) (length (a .bonuses .now))
+    (length (a .values .now)) (length (a .next .now)) (length (a .choices .now)) (length (a .order .now)) (length (a .numbers .now))
+
+-- the whole promise
+promise : (c : tie.After-make-with) →
+    let start = entered (tested c) .before in
+    MakesGuard (start .args .sheet .now) (start .args .result .now) (work start) (c .make-with .result) (c .make-with .last .1 .1 .0)
+promise c =
+    let start = entered (tested c) .before in
+    guard-promise (work start) (λ k. omega (arith, entered (tested c) .shared-slice-known .given k))
+    (subst (λ (b : Bool). Answers guardTableOf guardStates b (start .args .sheet .now) (start .args .result .now) (c .make-with .result) (c .make-with .last .1 .1 .0))
+    (tested c .work-ok .ensures) (c .make-with .ensures))
+
+work-ok-requires : tie.Need-work-ok-requires
+work-ok-requires c κs = tt
 
 make-with-requires : tie.Need-make-with-requires
-make-with-requires c κs = search needs
+make-with-requires c κs = let at = c .before .before .before .before .before .before .before .before .before .before .before in
+    let a = entered at .before .args in
+    λ e. work-room (a .tuples .now) (a .cells .now) (a .dropped .now) (a .gains .now) (a .bonuses .now) (a .values .now) (a .next .now) (a .choices .now) (a .order .now) (a .numbers .now) (sym (at .work-ok .ensures) ∙ e)
 
 clear8-requires : tie.Need-clear8-requires
-clear8-requires c κs = search needs
+clear8-requires c κs = tt
 
 clear16-requires : tie.Need-clear16-requires
-clear16-requires c κs = search needs
+clear16-requires c κs = tt
 
 clear16-requires-2 : tie.Need-clear16-requires-2
-clear16-requires-2 c κs = search needs
+clear16-requires-2 c κs = tt
 
 clear16-requires-3 : tie.Need-clear16-requires-3
-clear16-requires-3 c κs = search needs
+clear16-requires-3 c κs = tt
 
 clear16-requires-4 : tie.Need-clear16-requires-4
-clear16-requires-4 c κs = search needs
+clear16-requires-4 c κs = tt
 
 clear64-requires : tie.Need-clear64-requires
-clear64-requires c κs = search needs
+clear64-requires c κs = tt
 
 clear64-requires-2 : tie.Need-clear64-requires-2
-clear64-requires-2 c κs = search needs
+clear64-requires-2 c κs = tt
 
 clear8-requires-2 : tie.Need-clear8-requires-2
-clear8-requires-2 c κs = search needs
+clear8-requires-2 c κs = tt
 
 clear16-requires-5 : tie.Need-clear16-requires-5
-clear16-requires-5 c κs = search needs
+clear16-requires-5 c κs = tt
 
 clear16-requires-6 : tie.Need-clear16-requires-6
-clear16-requires-6 c κs = search needs
+clear16-requires-6 c κs = tt
 
 same-length : tie.Need-same-length
-same-length c = made c .make-with .kept .1 .0
+same-length c = made c .make-with .kept .1 .1 .0
 
 same-length-2 : tie.Need-same-length-2
-same-length-2 c = tuples c .clear8 .kept .0 ∙ made c .make-with .kept .1 .1 .0
+same-length-2 c = tuples c .clear8 .kept .0 ∙ made c .make-with .kept .1 .1 .1 .0
 
 same-length-3 : tie.Need-same-length-3
-same-length-3 c = cells c .clear16 .kept .0 ∙ made c .make-with .kept .1 .1 .1 .0
+same-length-3 c = cells c .clear16 .kept .0 ∙ made c .make-with .kept .1 .1 .1 .1 .0
 
 same-length-4 : tie.Need-same-length-4
-same-length-4 c = dropped c .clear162 .kept .0 ∙ made c .make-with .kept .1 .1 .1 .1 .0
+same-length-4 c = dropped c .clear162 .kept .0 ∙ made c .make-with .kept .1 .1 .1 .1 .1 .0
 
 same-length-5 : tie.Need-same-length-5
-same-length-5 c = gains c .clear163 .kept .0 ∙ made c .make-with .kept .1 .1 .1 .1 .1 .0
+same-length-5 c = gains c .clear163 .kept .0 ∙ made c .make-with .kept .1 .1 .1 .1 .1 .1 .0
 
 same-length-6 : tie.Need-same-length-6
-same-length-6 c = bonuses c .clear164 .kept .0 ∙ made c .make-with .kept .1 .1 .1 .1 .1 .1 .0
+same-length-6 c = bonuses c .clear164 .kept .0 ∙ made c .make-with .kept .1 .1 .1 .1 .1 .1 .1 .0
 
 same-length-7 : tie.Need-same-length-7
-same-length-7 c = values c .clear64 .kept .0 ∙ made c .make-with .kept .1 .1 .1 .1 .1 .1 .1 .0
+same-length-7 c = values c .clear64 .kept .0 ∙ made c .make-with .kept .1 .1 .1 .1 .1 .1 .1 .1 .0
 
 same-length-8 : tie.Need-same-length-8
-same-length-8 c = search needs
+same-length-8 c = next c .clear642 .kept .0 ∙ made c .make-with .kept .1 .1 .1 .1 .1 .1 .1 .1 .1 .0
 
 same-length-9 : tie.Need-same-length-9
-same-length-9 c = search needs
+same-length-9 c = choices c .clear82 .kept .0 ∙ made c .make-with .kept .1 .1 .1 .1 .1 .1 .1 .1 .1 .1 .0
 
 same-length-10 : tie.Need-same-length-10
-same-length-10 c = search needs
+same-length-10 c = order c .clear165 .kept .0 ∙ made c .make-with .kept .1 .1 .1 .1 .1 .1 .1 .1 .1 .1 .1 .0
 
 same-length-11 : tie.Need-same-length-11
-same-length-11 c = search needs
+same-length-11 c = numbers c .clear166 .kept .0 ∙ made c .make-with .kept .1 .1 .1 .1 .1 .1 .1 .1 .1 .1 .1 .1 .0
 
 returns : tie.Need-returns
 returns c = (
-  guard-promise _ (λ k. omega (arith, entered (made c) .shared-slice-known .given k)) (made c .make-with .ensures),
+  promise (made c),
   (
-    tuples c .clear8 .ensures ∙ ap zeros (made c .make-with .kept .1 .1 .0),
+    tuples c .clear8 .ensures ∙ ap zeros (made c .make-with .kept .1 .1 .1 .0),
     (
-      cells c .clear16 .ensures ∙ ap zeros (made c .make-with .kept .1 .1 .1 .0),
+      cells c .clear16 .ensures ∙ ap zeros (made c .make-with .kept .1 .1 .1 .1 .0),
       (
-        dropped c .clear162 .ensures ∙ ap zeros (made c .make-with .kept .1 .1 .1 .1 .0),
+        dropped c .clear162 .ensures ∙ ap zeros (made c .make-with .kept .1 .1 .1 .1 .1 .0),
         (
-          gains c .clear163 .ensures ∙ ap zeros (made c .make-with .kept .1 .1 .1 .1 .1 .0),
+          gains c .clear163 .ensures ∙ ap zeros (made c .make-with .kept .1 .1 .1 .1 .1 .1 .0),
           (
-            bonuses c .clear164 .ensures ∙ ap zeros (made c .make-with .kept .1 .1 .1 .1 .1 .1 .0),
+            bonuses c .clear164 .ensures ∙ ap zeros (made c .make-with .kept .1 .1 .1 .1 .1 .1 .1 .0),
             (
-              values c .clear64 .ensures ∙ ap zeros (made c .make-with .kept .1 .1 .1 .1 .1 .1 .1 .0),
+              values c .clear64 .ensures ∙ ap zeros (made c .make-with .kept .1 .1 .1 .1 .1 .1 .1 .1 .0),
               (
-                next c .clear642 .ensures ∙ ap zeros (made c .make-with .kept .1 .1 .1 .1 .1 .1 .1 .1 .0),
+                next c .clear642 .ensures ∙ ap zeros (made c .make-with .kept .1 .1 .1 .1 .1 .1 .1 .1 .1 .0),
                 (
-                  choices c .clear82 .ensures ∙ ap zeros (made c .make-with .kept .1 .1 .1 .1 .1 .1 .1 .1 .1 .0),
+                  choices c .clear82 .ensures ∙ ap zeros (made c .make-with .kept .1 .1 .1 .1 .1 .1 .1 .1 .1 .1 .0),
                   (
-                    order c .clear165 .ensures ∙ ap zeros (made c .make-with .kept .1 .1 .1 .1 .1 .1 .1 .1 .1 .1 .0),
-                    numbers c .clear166 .ensures ∙ ap zeros (made c .make-with .kept .1 .1 .1 .1 .1 .1 .1 .1 .1 .1 .1 .0),
+                    order c .clear165 .ensures ∙ ap zeros (made c .make-with .kept .1 .1 .1 .1 .1 .1 .1 .1 .1 .1 .1 .0),
+                    numbers c .clear166 .ensures ∙ ap zeros (made c .make-with .kept .1 .1 .1 .1 .1 .1 .1 .1 .1 .1 .1 .1 .0),
                   ),
                 ),
               ),
@@ -147,6 +177,7 @@ pub make-spec : {M : Type 1} → statement M
 make-spec =
     tie.close
     (tie.spec
+    work-ok-requires
     make-with-requires
     clear8-requires
     clear16-requires

@@ -1,0 +1,236 @@
+-- `judge::make::make_with`: the first judgements' refusals, then 9, and then the table is written. Assumes nothing.
+use mathlib.Core.Path.{subst}
+use Prim.Native.Nat.{_≤_}
+use native.Mathlib.Omega.{arith}
+use lib.ListN.{length}
+use Rattle.sheet.specs.declared.layout.Verdict.{Verdict}
+use Rattle.rows.specs.Entered.{count-most}
+use Rattle.plan.specs.Planned.{Room, inputs-low, outputs-low, horizon-in-bounds}
+use Rattle.judge.specs.Opening.{Ready, Opens}
+use Rattle.judge.specs.Judged.{layout-short, layout-written}
+use borrow.Author.Needs.{needs}
+use Rattle.judge.proofs.make.make_with.Statement.{statement}
+use Rattle.judge.proofs.make.make_with.Tie as tie
+
+-- the places that the needs look back to
+abbrev entry : tie.After-judge-first → tie.Start
+entry c = c .before .before .before .before .before .before .before .before .before .before .before .before .before .before .before .before
+
+abbrev judged : tie.After-enum-told → tie.After-judge-first
+judged c = c .before .before .before .before .before .before .before .before
+
+abbrev told : tie.After-pow22 → tie.After-enum-told
+told c = c .before .before .before
+
+abbrev counted : tie.After-plan → tie.After-pow22
+counted c = c .before .before .before .before .before .before .before .before .before .before .before
+
+abbrev planned : tie.After-table-length → tie.After-plan
+planned c = c .before .before .before .before .before .before .before .before .before .before .before .before .before .before .before
+
+abbrev refused : tie.After-known-told → tie.After-judge-first
+refused c = c .before .before .before .before .before .before .before .before .before
+
+abbrev wrote : tie.After-slice-known22 → tie.After-write
+wrote c = c .before .before
+
+abbrev room : tie.After-write-arg5 → tie.Else1
+room c = c .before .before .before .before .before
+
+abbrev fit : tie.After-slice-known22 → tie.Else1
+fit c = room (wrote c .before)
+
+abbrev first : tie.After-plan → tie.After-judge-first
+first c = judged (told (counted c))
+
+-- what the first judgements say of a verdict
+abbrev Says : tie.After-judge-first → Verdict → Type 0
+Says c v =
+    let a = entry c .args in
+    let r = c .judge-first .result in
+    let after = c .judge-first .last .1 .1 in
+    Opens (a .ok) (a .s .now) v (r .sheet) (r .states) (after .0) (after .1 .0) (after .1 .1 .0)
+
+-- and where they accept
+ready : (c : tie.After-enum-told) →
+    let a = entry (judged c) .args in
+    let r = judged c .judge-first .result in
+    let after = judged c .judge-first .last .1 .1 in
+    Ready (a .ok) (a .s .now) (r .sheet) (r .states) (after .0) (after .1 .0) (after .1 .1 .0)
+ready c = subst (Says (judged c)) (c .enum-told .given .1) (judged c .judge-first .ensures)
+
+-- the work memory is as long as before
+long : (c : tie.After-enum-told) →
+    let a = entry (judged c) .args in
+    let after = judged c .judge-first .last .1 .1 in
+    Room (after .0) (after .1 .0) (after .1 .1 .0) (a .gains .now) (a .bonuses .now) (a .values .now) (a .next .now) (a .choices .now) (a .order .now) (a .numbers .now)
+long c =
+    let w = entry (judged c) .pre (ready c .long) in
+    let kept = judged c .judge-first .kept .1 .1 in
+    record {
+      tuples-long = omega (arith, w .tuples-long, kept .0);
+      cells-long = omega (arith, w .cells-long, kept .1 .0);
+      dropped-long = omega (arith, w .dropped-long, kept .1 .1 .0);
+      gains-long = w .gains-long;
+      bonuses-long = w .bonuses-long;
+      values-long = w .values-long;
+      next-long = w .next-long;
+      choices-long = w .choices-long;
+      order-long = w .order-long;
+      numbers-long = w .numbers-long;
+    }
+
+judge-first-requires : tie.Need-judge-first-requires
+judge-first-requires c κs = λ e. let w = c .before .before .before .before .before .before .before .before .before .before .before .before .before .before .before .pre e in (w .tuples-long, (w .cells-long, w .dropped-long))
+
+enum-known-verdict : tie.Need-enum-known-verdict
+enum-known-verdict c = search needs
+
+enum-told : tie.Need-enum-told
+enum-told c = search needs
+
+pow2-requires : tie.Need-pow2-requires
+pow2-requires c κs = omega (arith, inputs-low (ready (c .before) .fits))
+
+pow2-requires-2 : tie.Need-pow2-requires-2
+pow2-requires-2 c κs = omega (arith, outputs-low (ready (c .before .before) .fits))
+
+plan-requires : tie.Need-plan-requires
+plan-requires c κs = let at = c .before .before .before .before .before .before .before .before .before .before in
+    let r = ready (told at) in
+    (r .fits, (r .playable, ((at .before .pow2 .ensures, (at .pow22 .ensures, horizon-in-bounds (r .fits))), long (told at))))
+
+table-length-requires : tie.Need-table-length-requires
+table-length-requires c κs = let at = c .before .before .before .before .before .before .before .before .before .before .before .before .before .before in
+    let t = at .plan .ensures .tabled in
+    (inputs-low (ready (told (counted at)) .fits), omega (arith, count-most t, t .following .states))
+
+same-length : tie.Need-same-length
+same-length c = first (planned (c .before)) .judge-first .kept .1 .1 .0
+
+same-length-2 : tie.Need-same-length-2
+same-length-2 c = first (planned (c .before)) .judge-first .kept .1 .1 .1 .0
+
+same-length-3 : tie.Need-same-length-3
+same-length-3 c = first (planned (c .before)) .judge-first .kept .1 .1 .1 .1 .0
+
+same-length-4 : tie.Need-same-length-4
+same-length-4 c = planned (c .before) .plan .kept .1 .1 .1 .1 .1 .1 .1 .1 .1 .0
+
+same-length-5 : tie.Need-same-length-5
+same-length-5 c = planned (c .before) .plan .kept .1 .1 .1 .1 .1 .1 .1 .1 .1 .1 .0
+
+same-length-6 : tie.Need-same-length-6
+same-length-6 c = planned (c .before) .plan .kept .1 .1 .1 .1 .1 .1 .1 .1 .1 .1 .1 .0
+
+same-length-7 : tie.Need-same-length-7
+same-length-7 c = planned (c .before) .plan .kept .1 .1 .1 .1 .1 .1 .1 .1 .1 .1 .1 .1 .0
+
+same-length-8 : tie.Need-same-length-8
+same-length-8 c = planned (c .before) .plan .kept .1 .1 .1 .1 .1 .1 .1 .1 .1 .1 .1 .1 .1 .0
+
+same-length-9 : tie.Need-same-length-9
+same-length-9 c = planned (c .before) .plan .kept .1 .1 .1 .1 .1 .1 .1 .1 .1 .1 .1 .1 .1 .1 .0
+
+same-length-10 : tie.Need-same-length-10
+same-length-10 c = planned (c .before) .plan .kept .1 .1 .1 .1 .1 .1 .1 .1 .1 .1 .1 .1 .1 .1 .1 .0
+
+returns : tie.Need-returns
+returns c = let at = planned (c .before) in
+    let r = ready (told (counted at)) in
+    r .answers (layout-short (r .fits) (r .playable) (at .plan .ensures) (entry (first at) .args .result .now) (c .before .table-length .ensures) (omega arith))
+
+write-requires : tie.Need-write-requires
+write-requires c κs = let sized = room c .before in
+    let at = planned sized in
+    (at .plan .ensures .tabled, (counted at .before .pow2 .ensures, (inputs-low (ready (told (counted at)) .fits), omega (arith, sized .table-length .ensures, room c .if1 .left))))
+
+same-length-11 : tie.Need-same-length-11
+same-length-11 c = refused c .judge-first .kept .1 .1 .0
+
+same-length-12 : tie.Need-same-length-12
+same-length-12 c = refused c .judge-first .kept .1 .1 .1 .0
+
+same-length-13 : tie.Need-same-length-13
+same-length-13 c = refused c .judge-first .kept .1 .1 .1 .1 .0
+
+returns-2 : tie.Need-returns-2
+returns-2 c = let at = refused c in subst (Says at) (c .before .verdict .given .1) (at .judge-first .ensures) (entry at .args .result .now)
+
+same-length-14 : tie.Need-same-length-14
+same-length-14 c = wrote c .write .kept .0
+
+same-length-15 : tie.Need-same-length-15
+same-length-15 c = first (planned (fit c .before)) .judge-first .kept .1 .1 .0
+
+same-length-16 : tie.Need-same-length-16
+same-length-16 c = first (planned (fit c .before)) .judge-first .kept .1 .1 .1 .0
+
+same-length-17 : tie.Need-same-length-17
+same-length-17 c = first (planned (fit c .before)) .judge-first .kept .1 .1 .1 .1 .0
+
+same-length-18 : tie.Need-same-length-18
+same-length-18 c = planned (fit c .before) .plan .kept .1 .1 .1 .1 .1 .1 .1 .1 .1 .0
+
+same-length-19 : tie.Need-same-length-19
+same-length-19 c = planned (fit c .before) .plan .kept .1 .1 .1 .1 .1 .1 .1 .1 .1 .1 .0
+
+same-length-20 : tie.Need-same-length-20
+same-length-20 c = planned (fit c .before) .plan .kept .1 .1 .1 .1 .1 .1 .1 .1 .1 .1 .1 .0
+
+same-length-21 : tie.Need-same-length-21
+same-length-21 c = planned (fit c .before) .plan .kept .1 .1 .1 .1 .1 .1 .1 .1 .1 .1 .1 .1 .0
+
+same-length-22 : tie.Need-same-length-22
+same-length-22 c = planned (fit c .before) .plan .kept .1 .1 .1 .1 .1 .1 .1 .1 .1 .1 .1 .1 .1 .0
+
+same-length-23 : tie.Need-same-length-23
+same-length-23 c = planned (fit c .before) .plan .kept .1 .1 .1 .1 .1 .1 .1 .1 .1 .1 .1 .1 .1 .1 .0
+
+same-length-24 : tie.Need-same-length-24
+same-length-24 c = planned (fit c .before) .plan .kept .1 .1 .1 .1 .1 .1 .1 .1 .1 .1 .1 .1 .1 .1 .1 .0
+
+returns-3 : tie.Need-returns-3
+returns-3 c = let at = planned (fit c .before) in
+    let r = ready (told (counted at)) in
+    r .answers (layout-written (r .fits) (r .playable) (at .plan .ensures) (entry (first at) .args .result .now) (fit c .before .table-length .ensures) (omega (arith, fit c .if1 .left)) (wrote c .write .ensures))
+
+pub make-with-spec : {M : Type 1} → statement M
+make-with-spec =
+    tie.close
+    (tie.spec
+    judge-first-requires
+    enum-known-verdict
+    enum-told
+    pow2-requires
+    pow2-requires-2
+    plan-requires
+    table-length-requires
+    same-length
+    same-length-2
+    same-length-3
+    same-length-4
+    same-length-5
+    same-length-6
+    same-length-7
+    same-length-8
+    same-length-9
+    same-length-10
+    returns
+    write-requires
+    same-length-11
+    same-length-12
+    same-length-13
+    returns-2
+    same-length-14
+    same-length-15
+    same-length-16
+    same-length-17
+    same-length-18
+    same-length-19
+    same-length-20
+    same-length-21
+    same-length-22
+    same-length-23
+    same-length-24
+    returns-3)

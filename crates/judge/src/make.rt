@@ -1,0 +1,90 @@
+// The maker of guard tables, but for the work memory, which is left as it falls.
+use crate::opening::judge_first;
+use plan::horizon::plan;
+use records::layout::Layout;
+use records::numbers::pow2;
+use rows::table::write;
+use sheet::layout::Refusal;
+use sheet::layout::Verdict;
+use supervisor::make::Made;
+ghost use mathlib.Core.Path.{_≡_};
+ghost use mathlib.Core.Bool.{true};
+ghost use Rattle.supervisor.specs.Making.{Answers};
+ghost use Rattle.plan.specs.Table.{guardTableOf, statesOf};
+ghost use Rattle.plan.specs.Planned.{Room};
+
+// The first judgements, then the guard over the sheet's horizon, then 9, and the result is written only then. `ok` says that the
+// work memory is long enough.
+pub fn make_with(
+    ok: bool,
+    s: &[u8],
+    result: &mut [u8],
+    tuples: &mut [u8],
+    cells: &mut [u16],
+    dropped: &mut [u16],
+    gains: &mut [u16],
+    bonuses: &mut [u16],
+    values: &mut [u64],
+    next: &mut [u64],
+    choices: &mut [u8],
+    order: &mut [u16],
+    numbers: &mut [u16],
+) -> Made
+    requires { ⌜ (ok ≡ true → Room (now tuples) (now cells) (now dropped) (now gains) (now bonuses) (now values) (now next) (now choices) (now order) (now numbers)) ⌝ }
+    ensures { λ r. ⌜ Answers guardTableOf statesOf ok (now (s .entry)) (now (result .entry)) r (now (result .exit)) ⌝ }
+{
+    let opening = judge_first(ok, s, tuples, cells, dropped);
+    let verdict = opening.verdict;
+    match verdict {
+        Verdict::Refused(ground) => Made::Refused(ground),
+        Verdict::Accepted => {
+            let sheet = opening.sheet;
+            let states = opening.states;
+            let inputs = pow2(sheet.inputs);
+            let outputs = pow2(sheet.outputs);
+            let horizon = sheet.horizon;
+            let count = plan(
+                s,
+                sheet,
+                horizon,
+                inputs,
+                outputs,
+                states,
+                tuples,
+                cells,
+                dropped,
+                gains,
+                bonuses,
+                values,
+                next,
+                choices,
+                order,
+                numbers,
+            );
+            let layout = Layout {
+                inputs: sheet.inputs,
+            };
+            let length = layout.table_length(count);
+            if result.len() < length {
+                return Made::Refused(Refusal::ShortResult);
+            }
+            write(
+                result,
+                sheet,
+                horizon,
+                inputs,
+                outputs,
+                states,
+                cells,
+                choices,
+                order,
+                numbers,
+                count,
+            );
+            Made::Table {
+                length,
+                states: count,
+            }
+        }
+    }
+}

@@ -1,0 +1,105 @@
+-- The table of steps of a sheet plays the sheet's game: what may be given, where a step leads, and what it earns.
+-- Assumes nothing.
+use mathlib.Core.Path.{_≡_, sym, ap, ap₂, _∙_}
+use mathlib.Core.Bool.{Bool, true, not}
+use mathlib.Core.List.{List}
+use Prim.Native.Nat.{ℕ, _+_, _*_, _≤_, _<_}
+use Rattle.records.specs.Tests.{by-test, and-left, and-right}
+use Rattle.records.specs.Limits.{maxStates}
+use Rattle.records.specs.Lists.{getD-tab}
+use Rattle.sheet.specs.Decoded.{Decoded}
+use Rattle.product.specs.Step.{inputsOf, outputsOf, advance, unbroken, softReward, weightOf, rewardBy, reward}
+use Rattle.product.specs.States.{lettersOf}
+use Rattle.product.specs.Numbered.{stateCount, stateOf, numberOf}
+use Rattle.product.specs.NumberedLaws.{state-number}
+use Rattle.game.specs.Rounds.{keptAfter, may}
+use Rattle.game.specs.Reachable.{letter-low, letter-input, letter-output}
+use Rattle.game.specs.Naming.{Names}
+use Rattle.game.specs.Value.{value, score, choice}
+use Rattle.records.specs.Cells.{isBroken}
+use Rattle.rounds.specs.Rounds.{isIn, leadsIn}
+use Rattle.supervisor.specs.Table.{cellsOf, droppedOf}
+use Rattle.supervisor.specs.Numbered.{goes, passes, leads-game}
+use Rattle.supervisor.specs.Entries.{sheet-steps, numbers-name, in-kept}
+use Rattle.values.specs.Order.{rank}
+use Rattle.values.specs.Values.{mayGive, nextOf, earns}
+use Rattle.plan.specs.Table.{gainsOf, bonusOf, bonusesOf, gameOf}
+
+-- ---- the game of a sheet's tuples
+
+-- an output may be given: its step is unbroken, and ends in a tuple that is kept after as many rounds as there are states
+abbrev pub mayAt : Decoded → List ℕ → ℕ → ℕ → Bool
+mayAt d = may (List ℕ) (inputsOf d) (outputsOf d) (advance d) (unbroken d) (stateCount d)
+
+-- document 01's Best of a tuple, an output's score, and the choice
+abbrev pub bestAt : Decoded → ℕ → List ℕ → ℕ
+bestAt d = value (List ℕ) (inputsOf d) (outputsOf d) (advance d) (mayAt d) (reward d)
+
+abbrev pub scoreAt : Decoded → ℕ → List ℕ → ℕ → ℕ → ℕ
+scoreAt d = score (List ℕ) (inputsOf d) (outputsOf d) (advance d) (mayAt d) (reward d)
+
+abbrev pub choiceAt : Decoded → ℕ → List ℕ → ℕ → ℕ
+choiceAt d = choice (List ℕ) (inputsOf d) (outputsOf d) (advance d) (mayAt d) (reward d) (rank (d .literals))
+
+-- a product state that no round drops
+pub record Inside (d : Decoded) (k : ℕ) : Type 0 where
+  pub low : k < stateCount d
+  pub kept : isIn (droppedOf d) k ≡ true
+
+-- ---- its table of steps
+
+module _ (d : Decoded) (fits : stateCount d ≤ maxStates) where
+  module _ (k i o : ℕ) (state : k < stateCount d) (input : i < inputsOf d) (output : o < outputsOf d) where
+    -- an output may be given by the table where it may at the tuple
+    pub may-is : mayGive (gameOf d) k i o ≡ mayAt d (stateOf d k) i o
+    unfolding gameOf mayGive may
+    may-is =
+        let names = numbers-name d fits in
+        leads-game (sheet-steps d fits) (droppedOf d)
+        (λ q. keptAfter (List ℕ) (inputsOf d) (outputsOf d) (advance d) (unbroken d) (stateCount d) (stateOf d q)) (in-kept d fits)
+        k i o state input output
+        ∙ by-test (passes (cellsOf d) (inputsOf d) (outputsOf d) k i o)
+        (λ y. rw (y, sym (names .tests k i o state input output) ∙ y, names .lands k i o state input output y))
+        (λ y. rw (y, sym (names .tests k i o state input output) ∙ y))
+
+    module _ (given : mayGive (gameOf d) k i o ≡ true) where
+      unbroken-step : passes (cellsOf d) (inputsOf d) (outputsOf d) k i o ≡ true
+      unfolding gameOf mayGive leadsIn passes goes
+      unbroken-step = and-left _ _ given
+
+      -- the table then leads to the tuple after the step
+      pub next-lands : stateOf d (nextOf (gameOf d) k i o) ≡ advance d (stateOf d k) i o
+      unfolding gameOf nextOf goes
+      next-lands = numbers-name d fits .lands k i o state input output unbroken-step
+
+      -- which no round drops
+      pub next-inside : Inside d (nextOf (gameOf d) k i o)
+      unfolding gameOf nextOf goes mayGive leadsIn
+      next-inside =
+          record {
+            low = numbers-name d fits .inside k i o state input output unbroken-step;
+            kept = and-right (not (isBroken (nextOf (gameOf d) k i o))) _ given;
+          }
+
+      -- by its number
+      pub next-is : nextOf (gameOf d) k i o ≡ numberOf d (advance d (stateOf d k) i o)
+      next-is = sym (state-number d fits (nextOf (gameOf d) k i o) (next-inside .low)) ∙ ap (numberOf d) next-lands
+
+      -- and the step earns its reward
+      pub earns-is : earns (gameOf d) k i o ≡ reward d (stateOf d k) i o
+      unfolding gameOf earns gainsOf bonusesOf bonusOf reward rewardBy advance
+      earns-is =
+          ap₂ _+_
+          (getD-tab (stateCount d) _ (nextOf (gameOf d) k i o) 0 (next-inside .low) ∙ ap (softReward (weightOf d) d) next-lands)
+          (getD-tab (lettersOf d) _ (i + inputsOf d * o) 0 (letter-low (inputsOf d) (outputsOf d) i o input output)
+          ∙ rw (letter-input (inputsOf d) i o input, letter-output (inputsOf d) i o input))
+
+  -- the numbers of the states that are in are names of their tuples
+  pub plays : Names ℕ (List ℕ) (inputsOf d) (outputsOf d)
+      (nextOf (gameOf d)) (advance d) (mayGive (gameOf d)) (mayAt d) (Inside d) (stateOf d)
+  plays =
+      record {
+        tests = λ k i o q. may-is k i o (q .low);
+        inside = λ k i o q. next-inside k i o (q .low);
+        lands = λ k i o q. next-lands k i o (q .low);
+      }

@@ -1,0 +1,42 @@
+// What steps earn, worked out once: for each product state by the soft monitors, for each letter by the equal lines.
+use product::step::match_reward;
+use product::step::soft_reward;
+use sheet::layout::Sheet;
+use states::tuples::load_tuple;
+ghost use mathlib.Core.Path.{_≡_};
+ghost use mathlib.Core.List.{List};
+ghost use Prim.Native.Nat.{ℕ, _*_, _/_, _%_, _≤_, _<_};
+ghost use lib.ListN.{length};
+ghost use Rattle.records.specs.Lists.{put};
+ghost use Rattle.sheet.specs.Where.{Fits, decoded};
+ghost use Rattle.product.specs.Step.{InRange, softReward, weightOf};
+ghost use Rattle.product.specs.States.{tupleAt};
+ghost use Rattle.plan.specs.Table.{bonusOf};
+
+// The gain of each of the first `n` tuples.
+pub fn fill_gains(s: &[u8], sheet: Sheet, tuples: &[u8], gains: &mut [u16], n: usize)
+    requires { ⌜ Fits (now s) sheet ⌝ }
+    requires { ⌜ ((k : ℕ) → k < n → InRange (decoded (now s) sheet) (tupleAt (now tuples) k)) ⌝ }
+    requires { ⌜ (n ≤ 256) × ((3072 ≤ length (now tuples)) × (n ≤ length (now gains))) ⌝ }
+    ensures { λ _. ⌜ now (gains .exit) ≡ put (now (gains .entry)) n (λ k. softReward (weightOf (decoded (now (s .entry)) sheet)) (decoded (now (s .entry)) sheet) (tupleAt (now (tuples .entry)) k)) ⌝ }
+{
+    let mut k: usize = 0;
+    while k < n {
+        let tuple = load_tuple(tuples, k);
+        gains[k] = soft_reward(s, sheet, tuple) as u16;
+        k += 1;
+    }
+}
+
+// The bonus of each letter.
+pub fn fill_bonuses(sheet: Sheet, bonuses: &mut [u16], inputs: usize, outputs: usize)
+    requires { ⌜ ((s : List ℕ) × Fits s sheet) ⌝ }
+    requires { ⌜ (1 ≤ inputs) × (inputs * outputs ≤ length (now bonuses)) ⌝ }
+    ensures { λ _. ⌜ ((s : List ℕ) → now (bonuses .exit) ≡ put (now (bonuses .entry)) (inputs * outputs) (λ l. bonusOf (decoded s sheet) (l % inputs) (l / inputs))) ⌝ }
+{
+    let mut l: usize = 0;
+    while l < inputs * outputs {
+        bonuses[l] = match_reward(sheet, l % inputs, l / inputs) as u16;
+        l += 1;
+    }
+}

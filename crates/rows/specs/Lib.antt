@@ -1,0 +1,2 @@
+-- The entries, rows and table that work memory holds, and why the code can read them.
+pub mod Entered

@@ -1,0 +1,2 @@
+// The bytes of a guard that was planned.
+pub mod table;
