@@ -3,6 +3,7 @@ pub mod Tests
 pub mod Bounded
 pub mod Bits
 pub mod Lists
+pub mod Stores
 pub mod Numbers
 pub mod Cells
 pub mod Cursor

@@ -2,7 +2,7 @@
 use Prim.Native.Nat.{_≤_, _-_}
 use native.Mathlib.Omega.{arith}
 use Rattle.rounds.specs.Rounds.{maskOf}
-use Rattle.masks.proofs.Stores.{Elements, same, none, more, all}
+use Rattle.records.specs.Stores.{Elements, same, none, more, all}
 use Rattle.masks.proofs.put_masks.Statement.{statement}
 use Rattle.masks.proofs.put_masks.Tie as tie
 

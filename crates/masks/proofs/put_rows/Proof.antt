@@ -5,7 +5,8 @@ use native.Mathlib.Omega.{arith}
 use lib.ListN.{length}
 use Rattle.masks.specs.Rows.{tableRow}
 use Rattle.masks.specs.Rows.{length-row}
-use Rattle.masks.proofs.Stores.{Blocks, no-block, same-blocks, more-blocks, all-blocks, row-inside}
+use Rattle.records.specs.Stores.{Blocks, no-block, same-blocks, more-blocks, all-blocks}
+use Rattle.masks.proofs.Stores.{row-inside}
 use Rattle.masks.proofs.put_rows.Statement.{statement}
 use Rattle.masks.proofs.put_rows.Tie as tie
 

@@ -6,7 +6,7 @@ use lib.Arith.{digits-lt}
 use lib.ListN.{length, length-set, getD}
 use Rattle.values.specs.Guard.{chosen}
 use Rattle.values.specs.Numbered.{stepsOf}
-use Rattle.supervisor.proofs.Stores.{Blocks, no-block, same-blocks, more-blocks, all-blocks}
+use Rattle.records.specs.Stores.{Blocks, no-block, same-blocks, more-blocks, all-blocks}
 use Rattle.rows.specs.Entered.{numbered, entryBy}
 use Rattle.rows.proofs.Stores.{pair-stored}
 use Rattle.rows.proofs.table.put_entries.Statement.{statement}

@@ -6,7 +6,7 @@ use lib.ListN.{length, getD}
 use Rattle.records.specs.Layout.{rowLength}
 use Rattle.records.specs.GuardTable.{length-row}
 use Rattle.values.specs.Numbered.{stepsOf}
-use Rattle.supervisor.proofs.Stores.{Blocks, no-block, same-blocks, more-blocks, all-blocks}
+use Rattle.records.specs.Stores.{Blocks, no-block, same-blocks, more-blocks, all-blocks}
 use Rattle.rows.specs.Entered.{rowBy, count-most, entered}
 use Rattle.rows.proofs.Stores.{row-inside}
 use Rattle.rows.proofs.table.put_rows.Statement.{statement}
