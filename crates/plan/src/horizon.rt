@@ -1,9 +1,9 @@
 // Planning: what steps earn, what product states are worth, what is chosen, and the states that are then met.
 use crate::gains::fill_bonuses;
 use crate::gains::fill_gains;
+use rows::states::guard_states;
 use sheet::layout::Sheet;
 use values::choice::fill_choices;
-use values::guard::guard_states;
 use values::values::value_rows;
 ghost use mathlib.Core.Path.{_≡_};
 ghost use mathlib.Core.Bool.{true};

@@ -1,2 +1,3 @@
-// The bytes of a guard that was planned.
+// The states of a guard, numbered as first met, and the bytes of its table.
+pub mod states;
 pub mod table;

@@ -1,11 +1,11 @@
 // The bytes of a guard table: its head, and a record for each of the guard's states.
-// `inputs` is the number of inputs that `lines` lines make; `cells`, `choices`, `order` and `numbers` are as crate `values`
+// `inputs` is the number of inputs that `lines` lines make; `cells`, `choices`, `order` and `numbers` are as planning
 // leaves them.
+use crate::states::follow;
 use records::cursor::put_header;
 use records::layout::Layout;
 use records::numbers::put_u16;
 use sheet::layout::Sheet;
-use values::guard::follow;
 ghost use mathlib.Core.Path.{_≡_};
 ghost use mathlib.Core.List.{List, [], _∷_, _++_};
 ghost use Prim.Native.Nat.{_+_, _*_, _^_, _≤_, _<_};

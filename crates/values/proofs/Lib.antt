@@ -1,5 +1,4 @@
 -- Laws that belong to no one function.
 pub mod Best
 pub mod Iterating
-pub mod Visiting
 pub mod Leading

@@ -1,5 +1,4 @@
-// Value iteration, the output order, the choice, and the states of the guard, over a table of steps.
+// Value iteration, the output order and the choice, over a table of steps.
 pub mod choice;
-pub mod guard;
 pub mod order;
 pub mod values;
