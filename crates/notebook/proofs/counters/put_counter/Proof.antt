@@ -2,6 +2,7 @@
 use mathlib.Core.Path.{refl, sym, ap}
 use mathlib.Core.List.{[], _∷_, _++_}
 use Prim.Native.Nat.{ℕ, _+_, _*_}
+use native.Mathlib.Omega.{arith}
 use Rattle.records.specs.Lists.{tab, length-tab}
 use Rattle.records.specs.Cursor.{header}
 use Rattle.notebook.specs.Counters.{movesOf, counterBytes}
@@ -21,16 +22,16 @@ put-front-requires : tie.Need-put-front-requires
 put-front-requires c κs = search needs
 
 add-put-accepts : tie.Need-add-put-accepts
-add-put-accepts c = search needs
+add-put-accepts c = omega arith
 
 put-accepts-requires : tie.Need-put-accepts-requires
 put-accepts-requires c κs = search needs
 
 add-put-moves : tie.Need-add-put-moves
-add-put-moves c = search needs
+add-put-moves c = omega arith
 
 add-put-moves-2 : tie.Need-add-put-moves-2
-add-put-moves-2 c = search needs
+add-put-moves-2 c = omega arith
 
 put-moves-requires : tie.Need-put-moves-requires
 put-moves-requires c κs = search needs

@@ -2,52 +2,51 @@
 use Prim.Native.Nat.{_+_, _*_}
 use native.Mathlib.Omega.{arith}
 use lib.ListN.{length-set}
-use borrow.Author.Needs.{needs}
 use Rattle.notebook.proofs.Stores.{front}
 use Rattle.notebook.proofs.counters.put_front.Statement.{statement}
 use Rattle.notebook.proofs.counters.put_front.Tie as tie
 
 mul-put-header : tie.Need-mul-put-header
-mul-put-header c = search needs
+mul-put-header c = omega arith
 
 add-put-header : tie.Need-add-put-header
-add-put-header c = search needs
+add-put-header c = omega arith
 
 cast-put-header : tie.Need-cast-put-header
-cast-put-header c = search needs
+cast-put-header c = omega arith
 
 put-header-requires : tie.Need-put-header-requires
-put-header-requires c κs = search needs
+put-header-requires c κs = omega arith
 
 add-sheet : tie.Need-add-sheet
-add-sheet c = search needs
+add-sheet c = omega arith
 
 slice-write-sheet : tie.Need-slice-write-sheet
-slice-write-sheet c = search needs
+slice-write-sheet c = omega arith
 
 add-sheet-2 : tie.Need-add-sheet-2
-add-sheet-2 c = search needs
+add-sheet-2 c = omega arith
 
 slice-write-sheet-2 : tie.Need-slice-write-sheet-2
 slice-write-sheet-2 c = simp length-set (omega arith)
 
 cast-sheet : tie.Need-cast-sheet
-cast-sheet c = search needs
+cast-sheet c = omega arith
 
 add-sheet-3 : tie.Need-add-sheet-3
-add-sheet-3 c = search needs
+add-sheet-3 c = omega arith
 
 slice-write-sheet-3 : tie.Need-slice-write-sheet-3
 slice-write-sheet-3 c = simp length-set (omega arith)
 
 add-sheet-4 : tie.Need-add-sheet-4
-add-sheet-4 c = search needs
+add-sheet-4 c = omega arith
 
 slice-write-sheet-4 : tie.Need-slice-write-sheet-4
 slice-write-sheet-4 c = simp length-set (omega arith)
 
 same-length : tie.Need-same-length
-same-length c = search needs
+same-length c = simp length-set (omega arith)
 
 returns : tie.Need-returns
 returns c =

@@ -2,12 +2,12 @@
 use mathlib.Core.Path.{sym, ap, _∙_, subst}
 use mathlib.Core.List.{List}
 use Prim.Native.Nat.{ℕ}
+use native.Mathlib.Omega.{arith}
 use lib.ListN.{length}
 use Rattle.product.specs.Numbered.{stateCount}
 use Rattle.supervisor.specs.Table.{supervisorTable}
 use Rattle.notebook.specs.Counters.{sheetBytes, Answered}
-use Rattle.notebook.proofs.Answers.{Written, written}
-use borrow.Author.Needs.{needs}
+use Rattle.notebook.proofs.Answers.{zeros-length, Written, written}
 use Rattle.notebook.proofs.makers.counters_supervisor.Statement.{statement}
 use Rattle.notebook.proofs.makers.counters_supervisor.Tie as tie
 
@@ -19,10 +19,10 @@ bytes : (c : tie.After-put-sheet) → Written (c .put-sheet .result) (c .put-she
 bytes c = written (entry c .args .n) (entry c .args .m) (entry c .pre .0) (entry c .pre .1) (c .put-sheet .ensures)
 
 slice-aggregate-put-sheet : tie.Need-slice-aggregate-put-sheet
-slice-aggregate-put-sheet c = search needs
+slice-aggregate-put-sheet c = sym (zeros-length 512)
 
 put-sheet-requires : tie.Need-put-sheet-requires
-put-sheet-requires c κs = search needs
+put-sheet-requires c κs = (c .before .pre .0, (c .before .pre .1, omega (arith, zeros-length 512)))
 
 array-share-prefix-sheet : tie.Need-array-share-prefix-sheet
 array-share-prefix-sheet c = bytes (c .before) .inside
@@ -31,7 +31,7 @@ slice-aggregate-supervisor-of : tie.Need-slice-aggregate-supervisor-of
 slice-aggregate-supervisor-of c = c .before .before .put-sheet .ensures .1 ∙ sym (ap length (bytes (c .before .before) .part))
 
 supervisor-of-requires : tie.Need-supervisor-of-requires
-supervisor-of-requires c κs = search needs
+supervisor-of-requires c κs = tt
 
 returns : tie.Need-returns
 returns c =
