@@ -2,13 +2,11 @@
 -- Assumes nothing.
 use mathlib.Core.Path.{_≡_, refl}
 use mathlib.Core.Bool.{Bool, true, cond}
-use mathlib.Core.List.{List, [], _∷_, _++_}
-use Prim.Native.Nat.{ℕ, _+_, _*_, _/_, _%_}
-use native.Mathlib.Omega.{arith}
-use lib.Dec.{eqb}
-use lib.ListN.{length, length-append}
+use mathlib.Core.List.{List, [], _∷_}
+use Prim.Native.Nat.{ℕ, _+_, _-_, _*_, _/_, _%_}
+use lib.Dec.{eqb, ltb}
+use lib.ListN.{length}
 use Rattle.records.specs.Lists.{tab, length-tab}
-use Rattle.records.specs.Cursor.{header}
 use Rattle.sheet.specs.Decoded.{Automaton, Decoded, encode}
 use Rattle.product.specs.States.{same}
 use Rattle.product.specs.NumberedLaws.{same-equal}
@@ -39,52 +37,42 @@ counters n m =
       monitors = counter n 1 ∷ counter m 2 ∷ [];
     }
 
--- ---- its bytes, as the program writes them
+-- ---- its bytes, as the program writes them: byte k
 
-abbrev pub headBytes : List ℕ
-headBytes = 7 ∷ 0 ∷ 1 ∷ 0 ∷ 0 ∷ 0 ∷ 2 ∷ 0 ∷ 0 ∷ 0 ∷ 1 ∷ []
+-- of the head: no inputs, two outputs, H = 0, both lines preferred on
+unfoldable pub headByte : ℕ → ℕ
+headByte k = cond (eqb k 0) 7 (cond (eqb k 2) 1 (cond (eqb k 6) 2 (cond (eqb k 10) 1 0)))
 
--- the states after each state and output
-abbrev pub movesOf : ℕ → ℕ → List ℕ
-movesOf n power = tab (n * 4) (λ k. countOn n power (k / 4) (k % 4))
+-- of a counter's record before its tables: hard, n states, the first is the start
+unfoldable pub frontByte : ℕ → ℕ → ℕ
+frontByte n k = cond (eqb k 0) (4 + n * 5) (cond (eqb k 2) 2 (cond (eqb k 6) n 0))
 
-unfoldable pub counterBytes : ℕ → ℕ → List ℕ
-counterBytes n power =
-    (header (4 + n * 5) 2 ++ (0 ∷ 0 ∷ n ∷ 0 ∷ [])) ++ (tab n (λ q. 1) ++ movesOf n power)
+-- of a counter's record: the front, the accept bytes, the states after each state and output
+unfoldable pub counterByte : ℕ → ℕ → ℕ → ℕ
+counterByte n power k =
+    cond (ltb k 8) (frontByte n k)
+    (cond (ltb k (8 + n)) 1 (countOn n power ((k - (8 + n)) / 4) ((k - (8 + n)) % 4)))
+
+-- of the sheet: its head has 11 bytes, a counter's record 8 and 5 for each state
+unfoldable pub sheetByte : ℕ → ℕ → ℕ → ℕ
+sheetByte n m k =
+    cond (ltb k 11) (headByte k)
+    (cond (ltb k (19 + n * 5)) (counterByte n 1 (k - 11)) (counterByte m 2 (k - (19 + n * 5))))
 
 unfoldable pub sheetBytes : ℕ → ℕ → List ℕ
-sheetBytes n m = headBytes ++ (counterBytes n 1 ++ counterBytes m 2)
+sheetBytes n m = tab (27 + n * 5 + m * 5) (sheetByte n m)
 
--- how long a counter's record and the sheet are
-pub length-counter : (n power : ℕ) → length (counterBytes n power) ≡ 8 + n * 5
-unfolding counterBytes
-length-counter n power =
-    omega (
-      arith,
-      length-append (header (4 + n * 5) 2 ++ (0 ∷ 0 ∷ n ∷ 0 ∷ [])) (tab n (λ q. 1) ++ movesOf n power),
-      length-append (tab n (λ q. 1)) (movesOf n power),
-      length-tab {A = ℕ} n (λ q. 1),
-      length-tab (n * 4) (λ k. countOn n power (k / 4) (k % 4)),
-    )
-
-pub length-sheet : (n m : ℕ) → length (sheetBytes n m) ≡ 19 + n * 5 + 8 + m * 5
+pub length-sheet : (n m : ℕ) → length (sheetBytes n m) ≡ 27 + n * 5 + m * 5
 unfolding sheetBytes
-length-sheet n m =
-    omega (
-      arith,
-      length-append headBytes (counterBytes n 1 ++ counterBytes m 2),
-      length-append (counterBytes n 1) (counterBytes m 2),
-      length-counter n 1,
-      length-counter m 2,
-    )
+length-sheet n m = length-tab (27 + n * 5 + m * 5) (sheetByte n m)
 
 -- the two sheets that the program makes tables of are those
 pub bytes-8 : sheetBytes 32 8 ≡ encode (counters 32 8)
-unfolding sheets countOn counterBytes sheetBytes
+unfolding sheets countOn headByte frontByte counterByte sheetByte sheetBytes
 bytes-8 = same-equal _ _ refl
 
 pub bytes-9 : sheetBytes 32 9 ≡ encode (counters 32 9)
-unfolding sheets countOn counterBytes sheetBytes
+unfolding sheets countOn headByte frontByte counterByte sheetByte sheetBytes
 bytes-9 = same-equal _ _ refl
 
 -- ---- what the makers answer to bytes: document 01's number, and the states of the table

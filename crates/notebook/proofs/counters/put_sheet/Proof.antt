@@ -1,68 +1,81 @@
--- `notebook::counters::put_sheet`: the head and the two counters, one after the other. Assumes nothing.
-use mathlib.Core.Path.{refl, sym}
+-- `notebook::counters::put_sheet`: the bytes before k are stored. Assumes nothing.
+use mathlib.Core.Path.{sym, subst}
+use Prim.Native.Nat.{ℕ, _+_, _-_, _≤_}
 use native.Mathlib.Omega.{arith}
-use Rattle.notebook.specs.Counters.{headBytes, counterBytes, sheetBytes, length-counter, length-sheet}
-use Rattle.notebook.proofs.Stores.{parts}
-use borrow.Author.Needs.{needs}
+use native.Mathlib.Nat.{zero-add}
+use lib.ListN.{set}
+use Rattle.supervisor.proofs.Stores.{Elements, same, none, more, all}
+use Rattle.notebook.specs.Counters.{sheetByte, sheetBytes, length-sheet}
 use Rattle.notebook.proofs.counters.put_sheet.Statement.{statement}
 use Rattle.notebook.proofs.counters.put_sheet.Tie as tie
 
--- the places that the last need looks back to
-abbrev first : tie.After-slice-known4 → tie.After-put-counter
-first c = c .before .before .before .before .before .before
+abbrev Inv-loop : tie.InvT-loop
+Inv-loop sheet₀ n m size k₀ sheet k = (k ≤ size) × Elements sheet₀ 0 (sheetByte n m) k sheet
 
-abbrev entry : tie.After-slice-known4 → tie.Start
-entry c = first c .before .before .before .before .before .before .before
+abbrev μ-loop : tie.MeasureT-loop
+μ-loop sheet₀ n m size k₀ sheet k = size - k
 
-put-head-requires : tie.Need-put-head-requires
-put-head-requires c κs = search needs
+-- the place that the loop's needs look back to
+abbrev entry : tie.After-sheet-byte Inv-loop μ-loop → tie.Start Inv-loop μ-loop
+entry c = c .before .before .before .before
 
-put-counter-requires : tie.Need-put-counter-requires
-put-counter-requires c κs = search needs
+mul-size : tie.Need-mul-size Inv-loop μ-loop
+mul-size c = omega arith
 
-mul-second : tie.Need-mul-second
-mul-second c = search needs
+add-size : tie.Need-add-size Inv-loop μ-loop
+add-size c = omega arith
 
-add-second : tie.Need-add-second
-add-second c = search needs
+mul-size-2 : tie.Need-mul-size-2 Inv-loop μ-loop
+mul-size-2 c = omega arith
 
-put-counter-requires-2 : tie.Need-put-counter-requires-2
-put-counter-requires-2 c κs = search needs
+add-size-2 : tie.Need-add-size-2 Inv-loop μ-loop
+add-size-2 c = omega arith
 
-add-result : tie.Need-add-result
-add-result c = search needs
+loop-holds : tie.Need-loop-holds Inv-loop μ-loop
+loop-holds c = (omega arith, none)
 
-mul-result : tie.Need-mul-result
-mul-result c = search needs
+sheet-byte-requires : tie.Need-sheet-byte-requires Inv-loop μ-loop
+sheet-byte-requires c κs = (omega arith, (omega arith, omega arith))
 
-add-result-2 : tie.Need-add-result-2
-add-result-2 c = search needs
+slice-write-sheet : tie.Need-slice-write-sheet Inv-loop μ-loop
+slice-write-sheet c = omega (arith, same (c .before .before .loop .inv .1))
 
-same-length : tie.Need-same-length
-same-length c = search needs
+add-k : tie.Need-add-k Inv-loop μ-loop
+add-k c = omega arith
 
-returns : tie.Need-returns
+loop-less : tie.Need-loop-less Inv-loop μ-loop
+loop-less c = omega arith
+
+loop-again : tie.Need-loop-again Inv-loop μ-loop
+loop-again c = (
+  omega arith,
+  subst (λ (j : ℕ). Elements (entry c .args .sheet .now) 0 (sheetByte (entry c .args .n) (entry c .args .m)) (c .before .before .loop .k + 1) (set (c .before .before .loop .sheet) j (c .sheet-byte .result)))
+      (zero-add (c .before .before .loop .k)) (more (c .before .before .loop .inv .1) (c .sheet-byte .ensures)),
+)
+
+same-length : tie.Need-same-length Inv-loop μ-loop
+same-length c = same (c .before .loop .inv .1)
+
+returns : tie.Need-returns Inv-loop μ-loop
 unfolding sheetBytes
-returns c =
-    let a = entry c .args in (
-      parts (a .sheet .now) 0 headBytes (counterBytes (a .n) 1) (counterBytes (a .m) 2)
-          (first c .before .before .before .before .put-head .ensures) refl
-          (first c .put-counter .ensures) (omega (arith, length-counter (a .n) 1))
-          (c .before .before .put-counter2 .ensures),
-      sym (length-sheet (a .n) (a .m)),
-    )
+returns c = let a = c .before .before .before .args in
+    (all (c .before .loop .inv .1) (omega arith), sym (length-sheet (a .n) (a .m)))
 
 pub put-sheet-spec : {M : Type 1} → statement M
 put-sheet-spec =
     tie.close
     (tie.spec
-    put-head-requires
-    put-counter-requires
-    mul-second
-    add-second
-    put-counter-requires-2
-    add-result
-    mul-result
-    add-result-2
+    Inv-loop
+    μ-loop
+    mul-size
+    add-size
+    mul-size-2
+    add-size-2
+    loop-holds
+    sheet-byte-requires
+    slice-write-sheet
+    add-k
+    loop-less
+    loop-again
     same-length
     returns)
