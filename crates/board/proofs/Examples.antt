@@ -1,4 +1,4 @@
--- Worked examples, by computation: sheet A's guard table, and a shield's table for P7's run.
+-- A guard table on the board, by computation: its entries, a run, and refusals.
 -- Assumes nothing.
 use mathlib.Core.Path.{_≡_, refl}
 use mathlib.Core.List.{List, [], _∷_, map}
@@ -14,7 +14,7 @@ use Rattle.tables.specs.Loadable.{sizeOk, fieldsOk, headOk, entryOk, entriesOk,
 use Rattle.board.specs.Load.{boardOf, loadOn, loadNumber}
 use Rattle.board.specs.Step.{proposal, deviates, outputAt, nextAt, entryFits, moved, lookedUp, stepOn, stepNumber, stepOutput}
 use Rattle.board.specs.declared.answers.Stepping.{Stepping}
-use Rattle.board.specs.History.{Call, load, step, Event, after, history, strayed}
+use Rattle.board.specs.History.{Call, load, step, Event, after, history}
 
 abbrev tableA : List ℕ
 tableA =
@@ -24,27 +24,20 @@ tableA =
     ∷ 4 ∷ 0 ∷ 17 ∷ 0 ∷ 0 ∷ 1 ∷ 0 ∷ 0
     ∷ []
 
--- never on twice running, as a shield of one line
-abbrev tableS : List ℕ
-tableS =
-    6 ∷ 0 ∷ 16 ∷ 0 ∷ 1 ∷ 1 ∷ 1 ∷ 0 ∷ 2 ∷ 0
-    ∷ 4 ∷ 0 ∷ 17 ∷ 0 ∷ 0 ∷ 0 ∷ 1 ∷ 1
-    ∷ 4 ∷ 0 ∷ 17 ∷ 0 ∷ 0 ∷ 0 ∷ 0 ∷ 0
-    ∷ []
+-- a table of another length: one state, always off
+abbrev tableB : List ℕ
+tableB = 6 ∷ 0 ∷ 16 ∷ 0 ∷ 0 ∷ 1 ∷ 1 ∷ 0 ∷ 1 ∷ 0 ∷ 4 ∷ 0 ∷ 17 ∷ 0 ∷ 0 ∷ 0 ∷ 0 ∷ 0 ∷ []
 
--- what a board of A answers at each place to each input: number, output, next place
+-- what the board answers at each place to each input: number, output, next place
 abbrev shown : Stepping → List ℕ
 shown r = stepNumber (r .answer) ∷ stepOutput (r .answer) ∷ r .board .place ∷ []
 
 abbrev listing : List (List ℕ)
 listing = cat 3 (λ k. tab 2 (λ i. shown (stepOn (runAt (boardOf tableA) k 0 0) tableA i)))
 
--- a load and five steps of A, a load and four steps of the shield; the latest call first
+-- a load and five steps; the latest call first
 abbrev runA : List Call
 runA = step tableA 1 ∷ step tableA 0 ∷ step tableA 1 ∷ step tableA 1 ∷ step tableA 1 ∷ load tableA ∷ []
-
-abbrev runS : List Call
-runS = step tableS 1 ∷ step tableS 1 ∷ step tableS 1 ∷ step tableS 1 ∷ load tableS ∷ []
 
 abbrev outputs : List Event → List ℕ
 outputs = map (λ (e : Event). e .output)
@@ -59,18 +52,14 @@ pub record Examples : Type 0 where
       ∷ []
   pub runs : outputs (history emptyBoard runA) ≡ 1 ∷ 0 ∷ 1 ∷ 0 ∷ 1 ∷ 0 ∷ []
   pub letter : stepNumber (stepOn (boardOf tableA) tableA 2 .answer) ≡ 12
-  pub occupied : loadNumber (loadOn (after emptyBoard runA) tableS .answer) ≡ 21
-  pub other-table : stepNumber (stepOn (boardOf tableA) tableS 0 .answer) ≡ 11
+  pub occupied : loadNumber (loadOn (after emptyBoard runA) tableB .answer) ≡ 21
+  pub other-table : stepNumber (stepOn (boardOf tableA) tableB 0 .answer) ≡ 11
   pub cut : loadNumber (loadOn emptyBoard (6 ∷ 0 ∷ 16 ∷ 0 ∷ []) .answer) ≡ 11
-  -- P7: proposals 1, 1, 1, 1 give 1, 0, 1, 0 with 2 deviations
-  pub shield : outputs (history emptyBoard runS) ≡ 0 ∷ 1 ∷ 0 ∷ 1 ∷ 0 ∷ []
-  pub deviations : after emptyBoard runS .deviations ≡ 2
-  pub counted : strayed 1 1 (history emptyBoard runS) ≡ 2
 
 pub examples : Examples
 unfolding all tab cat u16At linesOk horizonOk rowLength tableLength entryAt headerIs rowAt countsOk live emptyBoard runAt
     sizeOk fieldsOk headOk entryOk entriesOk rowOk rowsOk loadable boardOf loadOn
-    proposal deviates outputAt nextAt entryFits moved lookedUp stepOn strayed
+    proposal deviates outputAt nextAt entryFits moved lookedUp stepOn
 examples =
     record {
       loads = refl;
@@ -80,7 +69,4 @@ examples =
       occupied = refl;
       other-table = refl;
       cut = refl;
-      shield = refl;
-      deviations = refl;
-      counted = refl;
     }

@@ -1,16 +1,15 @@
--- Two sheets of document 01's notebook, computed with the definitions: sheet A (P1, P2 and its listing) and the shield P7.
+-- A shield, computed with the definitions, and a smallest board: the whole claim holds there, so none of its hypotheses is empty.
 -- Assumes nothing.
 use mathlib.Core.Path.{_≡_, refl, sym, ap, ap₂, subst}
 use mathlib.Core.Bool.{Bool, true, false, not, cond, _&&_}
 use mathlib.Core.List.{List, [], _∷_}
-use Prim.Native.Nat.{ℕ, _+_, _*_, _/_, _%_, _<_}
+use Prim.Native.Nat.{ℕ, _+_, _*_, _<_}
 use native.Mathlib.Omega.{arith}
 use lib.Dec.{eqb, ltb}
 use lib.ListN.{length, getD}
 use borrow.Author.Tests.{eqb-true, eq-eqb, lt-ltb, le-ltb}
 use Rattle.records.specs.Tests.{both-ways, and-left, and-right, and-both}
 use Rattle.records.specs.Bounded.{all, any, sum, top, all-at}
-use Rattle.records.specs.Lists.{tab}
 use Rattle.game.specs.Survival.{Survives}
 use Rattle.game.specs.Choice.{before, against, leader, choose}
 use Rattle.game.specs.Rounds.{keeps, keptAfter, may, Quiet, quiet-named, kept-iff}
@@ -18,7 +17,7 @@ use Rattle.game.specs.Value.{value, score, choice}
 use Rattle.game.specs.Numbering.{find, add, meet, met, visit, explore}
 use Rattle.game.specs.Reachable.{Reachable, reachable-closed, states, states-named}
 use Rattle.game.specs.Book.{Call, load, step, rewind, unload, Answer, refuse, give, deviations, Lent}
-use Rattle.game.specs.Machine.{RunsTable, Agrees, replies}
+use Rattle.game.specs.Machine.{RunsTable, Agrees}
 use Rattle.game.specs.Guard.{guardOf, guardPick, BookMove, guard-agrees}
 
 -- ---- states are lists of monitor states
@@ -49,63 +48,7 @@ never-twice s o = getD (0 ∷ 1 ∷ 0 ∷ 2 ∷ 2 ∷ 2 ∷ []) (2 * s + o) 0
 abbrev bit : Bool → ℕ
 bit b = cond b 1 0
 
--- ---- sheet A: never on twice running; 3 for output equal to input; H = 1, on preferred
-
--- the soft monitor stands at 1 after a step whose output equals its input
-abbrev stepA : List ℕ → ℕ → ℕ → List ℕ
-stepA s i o = never-twice (getD s 0 0) o ∷ bit (eqb i o) ∷ []
-
-abbrev okA : List ℕ → ℕ → ℕ → Bool
-okA s i o = not (eqb (never-twice (getD s 0 0) o) 2)
-
-abbrev rewardA : List ℕ → ℕ → ℕ → ℕ
-rewardA s i o = 3 * bit (eqb i o)
-
-abbrev startA : List ℕ
-startA = 0 ∷ 0 ∷ []
-
--- its product states
-statesA : List (List ℕ)
-unfolding explore visit met meet add find
-statesA = states (List ℕ) 2 2 stepA okA startA alike 4
-
--- P1: four of them
-product-A : statesA ≡ (0 ∷ 0 ∷ []) ∷ (0 ∷ 1 ∷ []) ∷ (1 ∷ 0 ∷ []) ∷ (1 ∷ 1 ∷ []) ∷ []
-unfolding statesA
-product-A = refl
-
--- the masks of each state, input 0 before input 1
-maskA : ℕ → ℕ → ℕ
-unfolding statesA may keptAfter
-maskA k i =
-    let s = getD statesA k startA in
-    bit (may (List ℕ) 2 2 stepA okA 0 s i 0) + 2 * bit (may (List ℕ) 2 2 stepA okA 0 s i 1)
-
-masks-A : tab 8 (λ x. maskA (x / 2) (x % 2)) ≡ 3 ∷ 3 ∷ 3 ∷ 3 ∷ 1 ∷ 1 ∷ 1 ∷ 1 ∷ []
-unfolding maskA tab
-masks-A = refl
-
--- P2: the scores at the start: input 0 off and on, input 1 off and on
-scores-A : tab 4 (λ x. score (List ℕ) 2 2 stepA (may (List ℕ) 2 2 stepA okA 0) rewardA 1 startA (x / 2) (x % 2)) ≡ 12 ∷ 3 ∷ 6 ∷ 9 ∷ []
-unfolding tab may keptAfter value score sum top
-scores-A = refl
-
--- the listing: for each guard state and input ten times the output, and the number of the next state
-pickA : List ℕ → ℕ → ℕ
-unfolding may keptAfter value score sum top choice choose leader against before
-pickA = guardPick (List ℕ) alike 2 2 stepA okA startA 0 rewardA (λ o. o) 1
-
-guardA : List (List ℕ)
-unfolding pickA explore visit met meet add find
-guardA = guardOf (List ℕ) alike 2 2 stepA okA startA 0 rewardA (λ o. o) 1 3
-
-listing-A : tab 6 (λ x.
-    let s = getD guardA (x / 2) startA in 10 * pickA s (x % 2) + find (List ℕ) alike (stepA s (x % 2) (pickA s (x % 2))) guardA)
-    ≡ 1 ∷ 12 ∷ 1 ∷ 12 ∷ 1 ∷ 0 ∷ []
-unfolding guardA tab
-listing-A = refl
-
--- ---- P7, a shield: m = 0, one output, never on twice running, match weight 1, H = 0, on preferred. The input is the proposal
+-- ---- a shield: no site lines, one output, never on twice running, match weight 1, H = 0, on preferred. The input is the proposal
 
 -- the monitor reads the output, its copy the proposal
 abbrev step7 : List ℕ → ℕ → ℕ → List ℕ
@@ -214,7 +157,7 @@ module _ (I limit : ℕ) (out nxt strays : ℕ → ℕ → ℕ) where
         steps = λ b k n d e i low h u. rw (e, lt-ltb n limit h, lt-ltb i I u) (refl, refl);
       }
 
--- ---- P7: proposals 1, 1, 1, 1 give 1, 0, 1, 0, with two deviations
+-- ---- that board with the shield's table
 
 says7 : Toy → Call (Unit {0}) → Answer
 unfolding toySays stepSays out7 nxt7
@@ -223,17 +166,6 @@ says7 = toySays 2 1000000 out7 nxt7 strays7
 after7 : Toy → Call (Unit {0}) → Toy
 unfolding toyAfter stepAfter out7 nxt7
 after7 = toyAfter 2 1000000 out7 nxt7 strays7
-
-four : List (Call (Unit {0}))
-four = load tt ∷ step tt 1 ∷ step tt 1 ∷ step tt 1 ∷ step tt 1 ∷ []
-
-answers-7 : replies (Unit {0}) Toy after7 says7 off four ≡ give 0 ∷ give 1 ∷ give 0 ∷ give 1 ∷ give 0 ∷ []
-unfolding four says7 after7
-answers-7 = refl
-
-board-7 : after7 (after7 (after7 (after7 (after7 off (load tt)) (step tt 1)) (step tt 1)) (step tt 1)) (step tt 1) ≡ on 2 4 2
-unfolding after7
-board-7 = refl
 
 -- ---- the whole claim at this sheet: none of its hypotheses is empty
 

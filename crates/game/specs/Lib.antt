@@ -24,5 +24,5 @@ pub mod Answers
 pub mod Machine
 pub mod Simulation
 pub mod Guard
--- two sheets, computed
+-- a shield, computed
 pub mod Example

@@ -11,19 +11,6 @@ use Rattle.rounds.specs.Rounds.{cellAt, isIn, leadsIn, answered, stays, 
 abbrev masks : List ℕ → List ℕ → ℕ → ℕ → ℕ → List (List ℕ)
 masks cells dropped n inputs outputs = tab n (λ k. tab inputs (maskOf cells dropped inputs outputs k))
 
--- sheet A (P1): 4 states, 2 inputs, 2 outputs
-abbrev sheetA : List ℕ
-sheetA = 1 ∷ 0 ∷ 2 ∷ 3 ∷ 1 ∷ 0 ∷ 2 ∷ 3 ∷ 1 ∷ 0 ∷ 65535 ∷ 65535 ∷ 1 ∷ 0 ∷ 65535 ∷ 65535 ∷ []
-
-pub sheet-a-kept : settled sheetA 4 2 2 (7 ∷ 7 ∷ 7 ∷ 7 ∷ []) ≡ 0 ∷ 0 ∷ 0 ∷ 0 ∷ []
-unfolding settled rounds round entryAfter stays answered leadsIn isIn cellAt any all put
-sheet-a-kept = refl
-
-pub sheet-a-masks : masks sheetA (0 ∷ 0 ∷ 0 ∷ 0 ∷ []) 4 2 2
-    ≡ (3 ∷ 3 ∷ []) ∷ (3 ∷ 3 ∷ []) ∷ (1 ∷ 1 ∷ []) ∷ (1 ∷ 1 ∷ []) ∷ []
-unfolding maskOf leadsIn isIn cellAt sum tab
-sheet-a-masks = refl
-
 -- a dead end, with one input and two outputs: 0 goes to 0 or 1, 1 to 2 alone, 2 nowhere
 abbrev deadEnd : List ℕ
 deadEnd = 0 ∷ 1 ∷ 2 ∷ 65535 ∷ 65535 ∷ 65535 ∷ []

@@ -17,4 +17,3 @@ pub mod Facts
 pub mod Written
 pub mod Complete
 pub mod Laws
-pub mod Examples

@@ -15,5 +15,3 @@ pub mod Grounds
 pub mod Solving
 pub mod Judging
 pub mod Written
--- document 01's P1
-pub mod Examples

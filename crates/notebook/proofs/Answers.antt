@@ -1,0 +1,67 @@
+-- What the makers promise, where the work memory has just the lengths that they ask for.
+-- Assumes nothing.
+use mathlib.Core.Path.{_≡_, refl, ap, _∙_}
+use mathlib.Core.Bool.{true}
+use mathlib.Core.List.{List}
+use Prim.Native.Nat.{ℕ, _≤_}
+use lib.ListN.{length, take, length-replicate}
+use native.Mathlib.Omega.{arith}
+use lib.Seq.{sets, length-sets, take-append-seam}
+use Rattle.records.specs.Lists.{sets-front}
+use Rattle.records.specs.Numbers.{zeros}
+use Rattle.product.specs.Numbered.{stateCount}
+use Rattle.supervisor.specs.Table.{supervisorTable}
+use Rattle.supervisor.specs.Promises.{workOk, MakesSupervisor}
+use Rattle.supervisor.specs.declared.make.Made.{Made}
+use Rattle.guard.specs.Table.{guardTableOf}
+use Rattle.guard.specs.Promises as guard
+use Rattle.guard.specs.Promises.{guardStates, Work, MakesGuard}
+use Rattle.guard.specs.Lent.{lent}
+use Rattle.notebook.specs.Counters.{sheetBytes, length-sheet, Answered}
+
+-- a new array's length
+pub zeros-length : (n : ℕ) → length (zeros n) ≡ n
+zeros-length n = length-replicate {A = ℕ} n 0
+
+supervisor-work : workOk 3072 16384 256 ≡ true
+unfolding workOk
+supervisor-work = refl
+
+pub supervisor-answered : {s before after : List ℕ} {r : Made} {tuples cells dropped room : ℕ}
+    → MakesSupervisor s before tuples cells dropped r after
+    → tuples ≡ 3072 → cells ≡ 16384 → dropped ≡ 256 → length before ≡ room → Answered supervisorTable stateCount s room r
+supervisor-answered m a b c d =
+    record {
+      number = rw (← supervisor-work, ← a, ← b, ← c, ← d) (m .makes .answers .number);
+      states = m .makes .answers .states;
+    }
+
+guard-work : guard.workOk (lent 3072 16384 256 256 64 256 256 4096 256 256) ≡ true
+unfolding guard.workOk
+guard-work = refl
+
+pub guard-answered : {s before after : List ℕ} {r : Made} {w : Work} {room : ℕ}
+    → MakesGuard s before w r after
+    → w ≡ lent 3072 16384 256 256 64 256 256 4096 256 256 → length before ≡ room → Answered guardTableOf guardStates s room r
+guard-answered m a d =
+    record {
+      number = rw (← guard-work, ← a, ← d) (m .makes .answers .number);
+      states = m .makes .answers .states;
+    }
+
+-- ---- the sheet's bytes at the start of a new array
+
+pub record Written (size : ℕ) (array s : List ℕ) : Type 0 where
+  pub inside : size ≤ length array
+  pub part : take size array ≡ s
+
+pub written : (n m : ℕ) {array : List ℕ} {size : ℕ} → n ≤ 32 → m ≤ 32
+    → (array ≡ sets (zeros 512) 0 (sheetBytes n m)) × (size ≡ length (sheetBytes n m)) → Written size array (sheetBytes n m)
+written n m {array} h k e =
+    let long : length array ≡ 512 = ap length (e .0) ∙ length-sets (zeros 512) 0 (sheetBytes n m) ∙ zeros-length 512 in
+    record {
+      inside = omega (arith, e .1, length-sheet n m);
+      part =
+          rw (e .0, e .1, sets-front (zeros 512) (sheetBytes n m) (omega (arith, zeros-length 512, length-sheet n m)))
+          (take-append-seam (sheetBytes n m) _);
+    }

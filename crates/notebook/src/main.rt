@@ -1,0 +1,68 @@
+// Counters of 32 and 8 states moved by different output lines pass; 32 and 9 are refused 7 (document 01's notebook).
+mod counters;
+mod makers;
+
+use makers::counters_guard;
+use makers::counters_supervisor;
+use sheet::layout::Refusal;
+use supervisor::make::Made;
+ghost use mathlib.Core.Path.{_≡_};
+ghost use Prim.Native.Nat.{_≤_};
+ghost use Rattle.sheet.specs.Layout.{groundNumber};
+
+// Document 01's number of a ground.
+fn number_of(ground: Refusal) -> u64
+    ensures { λ r. ⌜ r ≡ groundNumber ground ⌝ }
+{
+    match ground {
+        Refusal::Truncated => 1,
+        Refusal::Misplaced => 2,
+        Refusal::BadHead => 3,
+        Refusal::BadMonitor => 4,
+        Refusal::SeventhMonitor => 5,
+        Refusal::LongHorizon => 6,
+        Refusal::TooManyStates => 7,
+        Refusal::Unrealizable => 8,
+        Refusal::ShortResult => 9,
+        Refusal::ShortWork => 10,
+    }
+}
+
+// The answer of a maker: the states of its table, or the number of the refusal.
+fn print_made(made: Made) {
+    match made {
+        Made::Table { length: _, states } => {
+            io::print_decimal(1, states as u64);
+            io::write_all(1, b" states\n");
+        }
+        Made::Refused(ground) => {
+            io::write_all(1, b"refused ");
+            io::print_decimal(1, number_of(ground));
+            io::write_all(1, b"\n");
+        }
+    }
+}
+
+// What begins a line: the two counters.
+fn print_counters(n: usize, m: usize) {
+    io::print_decimal(1, n as u64);
+    io::write_all(1, b" and ");
+    io::print_decimal(1, m as u64);
+}
+
+// A line for each maker.
+fn report(n: usize, m: usize)
+    requires { ⌜ (n ≤ 32) × (m ≤ 32) ⌝ }
+{
+    print_counters(n, m);
+    io::write_all(1, b", supervisor: ");
+    print_made(counters_supervisor(n, m));
+    print_counters(n, m);
+    io::write_all(1, b", guard: ");
+    print_made(counters_guard(n, m));
+}
+
+fn main() {
+    report(32, 8);
+    report(32, 9);
+}

@@ -1,0 +1,71 @@
+// The makers, on sheets of two counters and with work memory of their own.
+use crate::counters::put_sheet;
+use guard::make::Guard;
+use supervisor::make::Made;
+use supervisor::make::Supervisor;
+ghost use Prim.Native.Nat.{_≤_};
+ghost use Rattle.product.specs.Numbered.{stateCount};
+ghost use Rattle.supervisor.specs.Table.{supervisorTable};
+ghost use Rattle.guard.specs.Table.{guardTableOf};
+ghost use Rattle.guard.specs.Promises.{guardStates};
+ghost use Rattle.notebook.specs.Counters.{sheetBytes, Answered};
+
+fn supervisor_of(sheet: &[u8]) -> Made
+    ensures { λ r. ⌜ Answered supervisorTable stateCount (now (sheet .entry)) 2048 r ⌝ }
+{
+    let mut result = [0u8; 2048];
+    let mut tuples = [0u8; 3072];
+    let mut cells = [0u16; 16384];
+    let mut dropped = [0u16; 256];
+    Supervisor::make(sheet, &mut result, &mut tuples, &mut cells, &mut dropped)
+}
+
+fn guard_of(sheet: &[u8]) -> Made
+    ensures { λ r. ⌜ Answered guardTableOf guardStates (now (sheet .entry)) 2048 r ⌝ }
+{
+    let mut result = [0u8; 2048];
+    let mut tuples = [0u8; 3072];
+    let mut cells = [0u16; 16384];
+    let mut dropped = [0u16; 256];
+    let mut gains = [0u16; 256];
+    let mut bonuses = [0u16; 64];
+    let mut values = [0u64; 256];
+    let mut next = [0u64; 256];
+    let mut choices = [0u8; 4096];
+    let mut order = [0u16; 256];
+    let mut numbers = [0u16; 256];
+    Guard::make(
+        sheet,
+        &mut result,
+        &mut tuples,
+        &mut cells,
+        &mut dropped,
+        &mut gains,
+        &mut bonuses,
+        &mut values,
+        &mut next,
+        &mut choices,
+        &mut order,
+        &mut numbers,
+    )
+}
+
+// What the supervisor's maker answers to counters of n and m states.
+pub fn counters_supervisor(n: usize, m: usize) -> Made
+    requires { ⌜ (n ≤ 32) × (m ≤ 32) ⌝ }
+    ensures { λ r. ⌜ Answered supervisorTable stateCount (sheetBytes n m) 2048 r ⌝ }
+{
+    let mut sheet = [0u8; 512];
+    let size = put_sheet(&mut sheet, n, m);
+    supervisor_of(&sheet[..size])
+}
+
+// And the guard's.
+pub fn counters_guard(n: usize, m: usize) -> Made
+    requires { ⌜ (n ≤ 32) × (m ≤ 32) ⌝ }
+    ensures { λ r. ⌜ Answered guardTableOf guardStates (sheetBytes n m) 2048 r ⌝ }
+{
+    let mut sheet = [0u8; 512];
+    let size = put_sheet(&mut sheet, n, m);
+    guard_of(&sheet[..size])
+}
