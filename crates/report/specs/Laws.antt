@@ -1,0 +1,210 @@
+-- Laws of the listing: a number's digits, text put piece by piece, how long a listing is, and the listing of a made table.
+-- Assumes nothing.
+use mathlib.Core.Path.{_≡_, refl, sym, ap, _∙_}
+use mathlib.Core.Bool.{Bool, true, false}
+use mathlib.Core.List.{List, [], _∷_, _++_}
+use Prim.Native.Nat.{ℕ, zero, suc, _+_, _*_, _/_, _%_, _^_, _≤_, _<_}
+use native.Mathlib.Nat.{suc-mul, mul-le-mul-right}
+use native.Mathlib.Decide.{decLt}
+use native.Mathlib.Omega.{arith}
+use lib.Dec.{ltb, leb}
+use lib.ListN.{length, getD, set, length-append}
+use lib.Pow.{pow-mono}
+use lib.Seq.{sets, length-sets}
+use borrow.Author.Tests.{lt-ltb, le-ltb, ltb-true, ltb-false}
+use Rattle.records.specs.Tests.{and-left, and-right}
+use Rattle.records.specs.Lists.{cat, cat-none, cat-more, cat-ext, cat-at, sets-append}
+use Rattle.records.specs.Numbers.{u16At}
+use Rattle.records.specs.Limits.{lines-facts, horizon-facts}
+use Rattle.records.specs.Layout.{entryAt, guardTable}
+use Rattle.records.specs.GuardTable.{table-head, entry-output, entry-next}
+use Rattle.board.specs.Table.{loadable, entryOk}
+use Rattle.board.specs.Facts.{loadable-head, loadable-entry}
+use Rattle.report.specs.Listing.{
+  decimalFrom,
+  decimal,
+  statesWord,
+  inputsWord,
+  outputsWord,
+  horizonWord,
+  lineEnd,
+  headLine,
+  entryText,
+  rowText,
+  listing,
+  refusedText,
+  outputIn,
+  nextIn,
+  rowOf,
+  listingOf,
+}
+use Rattle.report.specs.Promises.{Put, Filled, textLength}
+
+-- ---- digits
+
+from-digit : (f n : ℕ) → n < 10 → decimalFrom (suc f) n ≡ (48 + n) ∷ []
+unfolding decimalFrom
+from-digit f n h =
+    ap (λ (b : Bool). elim b [ true ↦ (48 + n) ∷ [] | false ↦ decimalFrom f (n / 10) ++ ((48 + (n % 10)) ∷ []) ]) (lt-ltb n 10 h)
+
+from-more : (f n : ℕ) → 10 ≤ n → decimalFrom (suc f) n ≡ decimalFrom f (n / 10) ++ ((48 + (n % 10)) ∷ [])
+unfolding decimalFrom
+from-more f n h =
+    ap (λ (b : Bool). elim b [ true ↦ (48 + n) ∷ [] | false ↦ decimalFrom f (n / 10) ++ ((48 + (n % 10)) ∷ []) ]) (le-ltb n 10 h)
+
+-- fuel above the number is enough
+from-any : (f g n : ℕ) → n < f → n < g → decimalFrom f n ≡ decimalFrom g n
+from-any zero g n h k = absurd (omega arith)
+from-any (suc f) zero n h k = absurd (omega arith)
+from-any (suc f) (suc g) n h k =
+    elim (decLt n 10) [
+      | yes l ↦ from-digit f n l ∙ sym (from-digit g n l)
+      | no l ↦
+          from-more f n (omega arith)
+          ∙ ap (λ (s : List ℕ). s ++ ((48 + (n % 10)) ∷ [])) (from-any f g (n / 10) (omega arith) (omega arith))
+          ∙ sym (from-more g n (omega arith))
+    ]
+
+pub decimal-digit : (n : ℕ) → n < 10 → decimal n ≡ (48 + n) ∷ []
+unfolding decimal
+decimal-digit n h = from-digit n n h
+
+pub decimal-more : (n : ℕ) → 10 ≤ n → decimal n ≡ decimal (n / 10) ++ ((48 + (n % 10)) ∷ [])
+unfolding decimal
+decimal-more n h =
+    from-more n n h
+    ∙ ap (λ (s : List ℕ). s ++ ((48 + (n % 10)) ∷ [])) (from-any n (suc (n / 10)) (n / 10) (omega arith) (omega arith))
+
+pub decimal-two : (n : ℕ) → 10 ≤ n → n < 100 → decimal n ≡ (48 + n / 10) ∷ (48 + (n % 10)) ∷ []
+decimal-two n h l = rw (decimal-more n h, decimal-digit (n / 10) (omega arith))
+
+pub decimal-three : (n : ℕ) → 100 ≤ n → n < 1000
+    → decimal n ≡ (48 + n / 100) ∷ (48 + ((n / 10) % 10)) ∷ (48 + (n % 10)) ∷ []
+decimal-three n h l =
+    let hundreds : n / 10 / 10 ≡ n / 100 = omega arith in
+    rw (decimal-more n (omega arith), decimal-two (n / 10) (omega arith) (omega arith), hundreds)
+
+-- how many there are
+pub one-digit : (n : ℕ) → n < 10 → length (decimal n) ≡ 1
+one-digit n h = rw (decimal-digit n h)
+
+pub two-digits : (n : ℕ) → n < 100 → length (decimal n) ≤ 2
+two-digits n h = elim (decLt n 10) [ yes l ↦ omega (arith, one-digit n l) | no l ↦ rw (decimal-two n (omega arith) h) (omega arith) ]
+
+pub three-digits : (n : ℕ) → n < 1000 → length (decimal n) ≤ 3
+three-digits n h =
+    elim (decLt n 100) [ yes l ↦ omega (arith, two-digits n l) | no l ↦ rw (decimal-three n (omega arith) h) (omega arith) ]
+
+-- ---- pieces: text put after text
+
+pub put-byte : (before : List ℕ) (at x : ℕ) → Put before at (x ∷ []) (at + 1) (set before at x)
+put-byte before at x = record { place-is = refl; bytes = refl }
+
+pub put-same : {before : List ℕ} {at : ℕ} {words : List ℕ} {place : ℕ} {after : List ℕ} → Put before at words place after
+    → length after ≡ length before
+put-same {before} {at} {words} p = ap length (p .bytes) ∙ length-sets before at words
+
+pub put-then : {before : List ℕ} {at : ℕ} {xs ys : List ℕ} {place end : ℕ} {now after : List ℕ}
+    → Put before at xs place now → Put now place ys end after → Put before at (xs ++ ys) end after
+put-then {before} {at} {xs} {ys} {place} {end} {now} {after} p q =
+    record {
+      place-is = omega (arith, p .place-is, q .place-is, length-append xs ys);
+      bytes =
+          q .bytes
+          ∙ ap (λ (k : ℕ). sets now k ys) (p .place-is)
+          ∙ ap (λ (l : List ℕ). sets l (at + length xs) ys) (p .bytes)
+          ∙ sets-append before at xs ys;
+    }
+
+-- blocks, as a loop puts them
+pub put-none : (before : List ℕ) (at : ℕ) (f : ℕ → List ℕ) → Put before at (cat 0 f) at before
+put-none before at f = rw cat-none (record { place-is = omega arith; bytes = refl })
+
+pub put-more : (f : ℕ → List ℕ) (k : ℕ) {before : List ℕ} {at place end : ℕ} {now after : List ℕ}
+    → Put before at (cat k f) place now → Put now place (f k) end after → Put before at (cat (k + 1) f) end after
+put-more f k p q = rw cat-more (put-then p q)
+
+-- a block lies inside
+pub cat-inside : (n : ℕ) (f : ℕ → List ℕ) (k : ℕ) → k < n → length (cat k f) + length (f k) ≤ length (cat n f)
+cat-inside n f k h =
+    let r = cat-at n f k h in
+    omega (arith, ap length (r .1), length-append (cat k f) (f k ++ r .0), length-append (f k) (r .0))
+
+-- ---- how long a listing is
+
+cat-most : (n c : ℕ) (f : ℕ → List ℕ) → ((k : ℕ) → k < n → length (f k) ≤ c) → length (cat n f) ≤ n * c
+unfolding cat
+cat-most zero c f e = omega arith
+cat-most (suc n) c f e =
+    omega (arith, length-append (cat n f) (f n), cat-most n c f (λ k l. e k (omega arith)), e n (omega arith), suc-mul n c)
+
+entry-most : (out next : ℕ) → out < 10 → next < 1000 → length (entryText out next) ≤ 6
+unfolding entryText
+entry-most out next h l =
+    omega (arith, length-append (decimal out) (62 ∷ decimal next), one-digit out h, three-digits next l)
+
+row-most : (inputs : ℕ) (out next : ℕ → ℕ) (k : ℕ) → inputs ≤ 4 → k < 1000
+    → ((i : ℕ) → i < 2 ^ inputs → (out i < 10) × (next i < 1000)) → length (rowText inputs out next k) ≤ 101
+unfolding rowText
+row-most inputs out next k h l e =
+    let entries = cat (2 ^ inputs) (λ i. entryText (out i) (next i)) in
+    let most : length entries ≤ 2 ^ inputs * 6 =
+    cat-most (2 ^ inputs) 6 (λ i. entryText (out i) (next i)) (λ i m. entry-most (out i) (next i) (e i m .0) (e i m .1)) in
+    let few : 2 ^ inputs ≤ 16 = pow-mono {j = 4} h in
+    omega (arith, length-append (decimal k) (58 ∷ (entries ++ lineEnd)), length-append entries lineEnd, three-digits k l)
+
+head-most : (count inputs outputs horizon : ℕ) → count < 1000 → inputs < 10 → outputs < 10 → horizon < 100
+    → length (headLine count inputs outputs horizon) ≤ 41
+unfolding headLine
+head-most count inputs outputs horizon a b c d =
+    simp length-append
+    (omega (arith, three-digits count a, one-digit inputs b, one-digit outputs c, two-digits horizon d))
+
+-- the outputs and next states of a loadable table are small
+entries-small : (t : List ℕ) → loadable t ≡ true → (k i : ℕ) → k < u16At t 8 → i < 2 ^ getD t 5 0
+    → (outputIn t (getD t 5 0) k i < 10) × (nextIn t (getD t 5 0) k i < 1000)
+unfolding outputIn nextIn entryOk
+entries-small t e k i h l =
+    let head = loadable-head t e in
+    let lines = lines-facts (getD t 4 0) (getD t 5 0) (getD t 6 0) (head .lines) in
+    let ok = loadable-entry t e k i h l in
+    let outs : 2 ^ getD t 6 0 ≤ 8 = pow-mono {j = 3} (lines .outputs-most) in
+    let at = entryAt (getD t 5 0) k i in
+    let out : getD t at 0 < 2 ^ getD t 6 0 = ltb-true (getD t at 0) (2 ^ getD t 6 0) (search and-left) in
+    let next : getD t (at + 1) 0 < u16At t 8 = ltb-true (getD t (at + 1) 0) (u16At t 8) (search (and-left, and-right)) in
+    (omega arith, omega (arith, head .count-most))
+
+pub listing-most : (t : List ℕ) → loadable t ≡ true → length (listingOf t) ≤ textLength
+unfolding listingOf listing
+listing-most t e =
+    let head = loadable-head t e in
+    let count = u16At t 8 in
+    let inputs = getD t 5 0 in
+    let lines = lines-facts (getD t 4 0) inputs (getD t 6 0) (head .lines) in
+    let far = horizon-facts inputs (getD t 7 0) (head .horizon) in
+    let row : ℕ → List ℕ = λ k. rowText inputs (outputIn t inputs k) (nextIn t inputs k) k in
+    let rows : length (cat count row) ≤ count * 101 =
+    cat-most count 101 row
+    (λ k h. row-most inputs (outputIn t inputs k) (nextIn t inputs k) k (lines .inputs-most) (omega (arith, head .count-most))
+    (λ i l. entries-small t e k i h l)) in
+    omega (
+      arith,
+      rows,
+      head .count-most,
+      length-append (headLine count inputs (getD t 6 0) (getD t 7 0)) (cat count row),
+      head-most count inputs (getD t 6 0) (getD t 7 0) (omega (arith, head .count-most)) (omega (arith, lines .inputs-most))
+          (omega (arith, lines .outputs-most)) (omega (arith, far .most)),
+    )
+
+-- ---- the listing of a made table is that of its entries
+
+module _ (mode inputs outputs horizon count : ℕ) (out next : ℕ → ℕ → ℕ) where
+  pub listing-made : listingOf (guardTable mode inputs outputs horizon count out next) ≡ listing count inputs outputs horizon out next
+  unfolding listingOf listing outputIn nextIn rowText
+  listing-made =
+      let t = guardTable mode inputs outputs horizon count out next in
+      let head = table-head mode inputs outputs horizon count out next in
+      rw (head .count-is, head .inputs-is, head .outputs-is, head .horizon-is)
+      (ap (λ (l : List ℕ). headLine count inputs outputs horizon ++ l)
+      (cat-ext count _ _ (λ k h. ap (λ (l : List ℕ). decimal k ++ (58 ∷ (l ++ lineEnd)))
+      (cat-ext (2 ^ inputs) _ _ (λ i l. rw (entry-output mode inputs outputs horizon count out next k h i l, entry-next mode inputs outputs horizon count out next k h i l))))))
