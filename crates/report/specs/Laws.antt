@@ -13,7 +13,7 @@ use lib.Pow.{pow-mono}
 use lib.Seq.{sets, length-sets}
 use borrow.Author.Tests.{lt-ltb, le-ltb, ltb-true, ltb-false}
 use Rattle.records.specs.Tests.{and-left, and-right}
-use Rattle.records.specs.Lists.{cat, cat-none, cat-more, cat-ext, cat-at, sets-append}
+use Rattle.records.specs.Lists.{tab, length-tab, tab-self, cat, cat-none, cat-more, cat-ext, cat-at, sets-append, sets-more}
 use Rattle.records.specs.Numbers.{u16At}
 use Rattle.records.specs.Limits.{lines-facts, horizon-facts}
 use Rattle.records.specs.Layout.{entryAt, guardTable}
@@ -84,16 +84,32 @@ decimal-three n h l =
     let hundreds : n / 10 / 10 ≡ n / 100 = omega arith in
     rw (decimal-more n (omega arith), decimal-two (n / 10) (omega arith) (omega arith), hundreds)
 
+-- the same, as a place that found the digits one by one has them
+pub digits-one : (n : ℕ) → n < 10 → {a : ℕ} → a ≡ 48 + n → a ∷ [] ≡ decimal n
+digits-one n h e = rw (decimal-digit n h, e)
+
+pub digits-two : (n : ℕ) → 10 ≤ n → n < 100 → {a b : ℕ} → a ≡ 48 + n / 10 → b ≡ 48 + (n % 10) → a ∷ b ∷ [] ≡ decimal n
+digits-two n h l e f = rw (decimal-two n h l, e, f)
+
+pub digits-three : (n : ℕ) → 100 ≤ n → n < 1000 → {a b c : ℕ} → a ≡ 48 + n / 100 → b ≡ 48 + ((n / 10) % 10) → c ≡ 48 + (n % 10)
+    → a ∷ b ∷ c ∷ [] ≡ decimal n
+digits-three n h l e f g = rw (decimal-three n h l, e, f, g)
+
 -- how many there are
 pub one-digit : (n : ℕ) → n < 10 → length (decimal n) ≡ 1
 one-digit n h = rw (decimal-digit n h)
 
-pub two-digits : (n : ℕ) → n < 100 → length (decimal n) ≤ 2
-two-digits n h = elim (decLt n 10) [ yes l ↦ omega (arith, one-digit n l) | no l ↦ rw (decimal-two n (omega arith) h) (omega arith) ]
+pub two-digits : (n : ℕ) → 10 ≤ n → n < 100 → length (decimal n) ≡ 2
+two-digits n h l = rw (decimal-two n h l)
 
-pub three-digits : (n : ℕ) → n < 1000 → length (decimal n) ≤ 3
-three-digits n h =
-    elim (decLt n 100) [ yes l ↦ omega (arith, two-digits n l) | no l ↦ rw (decimal-three n (omega arith) h) (omega arith) ]
+pub three-digits : (n : ℕ) → 100 ≤ n → n < 1000 → length (decimal n) ≡ 3
+three-digits n h l = rw (decimal-three n h l)
+
+two-most : (n : ℕ) → n < 100 → length (decimal n) ≤ 2
+two-most n h = elim (decLt n 10) [ yes l ↦ omega (arith, one-digit n l) | no l ↦ omega (arith, two-digits n (omega arith) h) ]
+
+pub three-most : (n : ℕ) → n < 1000 → length (decimal n) ≤ 3
+three-most n h = elim (decLt n 100) [ yes l ↦ omega (arith, two-most n l) | no l ↦ omega (arith, three-digits n (omega arith) h) ]
 
 -- ---- pieces: text put after text
 
@@ -115,6 +131,32 @@ put-then {before} {at} {xs} {ys} {place} {end} {now} {after} p q =
           ∙ ap (λ (l : List ℕ). sets l (at + length xs) ys) (p .bytes)
           ∙ sets-append before at xs ys;
     }
+
+-- where two pieces fit, the second does after the first
+pub fits-rest : {before : List ℕ} {at : ℕ} {xs : List ℕ} {place : ℕ} {now : List ℕ} → Put before at xs place now
+    → (ys : List ℕ) → at + length (xs ++ ys) ≤ length before → place + length ys ≤ length now
+fits-rest {before} {at} {xs} p ys h = omega (arith, put-same p, p .place-is, length-append xs ys)
+
+pub put-as : {before : List ℕ} {at : ℕ} {xs ys : List ℕ} {place : ℕ} {after : List ℕ} → Put before at xs place after → xs ≡ ys
+    → Put before at ys place after
+put-as p e = rw e at p
+
+-- elements, as a loop puts them
+pub word-none : (before : List ℕ) (at : ℕ) (f : ℕ → ℕ) → Put before at (tab 0 f) (at + 0) before
+unfolding tab
+word-none before at f = record { place-is = refl; bytes = refl }
+
+pub word-more : (f : ℕ → ℕ) (i : ℕ) {before : List ℕ} {at place : ℕ} {now : List ℕ} → Put before at (tab i f) place now
+    → Put before at (tab (i + 1) f) (at + (i + 1)) (set now (at + i) (f i))
+word-more f i {before} {at} p =
+    record {
+      place-is = omega (arith, length-tab (i + 1) f);
+      bytes = ap (λ (l : List ℕ). set l (at + i) (f i)) (p .bytes) ∙ sets-more before at i f;
+    }
+
+pub word-all : (word : List ℕ) (i : ℕ) → i ≡ length word → {before : List ℕ} {at place : ℕ} {now : List ℕ}
+    → Put before at (tab i (λ j. getD word j 0)) place now → Put before at word place now
+word-all word i e p = put-as p (ap (λ (n : ℕ). tab n (λ j. getD word j 0)) e ∙ sym (tab-self 0 word))
 
 -- blocks, as a loop puts them
 pub put-none : (before : List ℕ) (at : ℕ) (f : ℕ → List ℕ) → Put before at (cat 0 f) at before
@@ -141,7 +183,7 @@ cat-most (suc n) c f e =
 entry-most : (out next : ℕ) → out < 10 → next < 1000 → length (entryText out next) ≤ 6
 unfolding entryText
 entry-most out next h l =
-    omega (arith, length-append (decimal out) (62 ∷ decimal next), one-digit out h, three-digits next l)
+    omega (arith, length-append (decimal out) (62 ∷ decimal next), one-digit out h, three-most next l)
 
 row-most : (inputs : ℕ) (out next : ℕ → ℕ) (k : ℕ) → inputs ≤ 4 → k < 1000
     → ((i : ℕ) → i < 2 ^ inputs → (out i < 10) × (next i < 1000)) → length (rowText inputs out next k) ≤ 101
@@ -151,14 +193,14 @@ row-most inputs out next k h l e =
     let most : length entries ≤ 2 ^ inputs * 6 =
     cat-most (2 ^ inputs) 6 (λ i. entryText (out i) (next i)) (λ i m. entry-most (out i) (next i) (e i m .0) (e i m .1)) in
     let few : 2 ^ inputs ≤ 16 = pow-mono {j = 4} h in
-    omega (arith, length-append (decimal k) (58 ∷ (entries ++ lineEnd)), length-append entries lineEnd, three-digits k l)
+    omega (arith, length-append (decimal k) (58 ∷ (entries ++ lineEnd)), length-append entries lineEnd, three-most k l)
 
 head-most : (count inputs outputs horizon : ℕ) → count < 1000 → inputs < 10 → outputs < 10 → horizon < 100
     → length (headLine count inputs outputs horizon) ≤ 41
 unfolding headLine
 head-most count inputs outputs horizon a b c d =
     simp length-append
-    (omega (arith, three-digits count a, one-digit inputs b, one-digit outputs c, two-digits horizon d))
+    (omega (arith, three-most count a, one-digit inputs b, one-digit outputs c, two-most horizon d))
 
 -- the outputs and next states of a loadable table are small
 entries-small : (t : List ℕ) → loadable t ≡ true → (k i : ℕ) → k < u16At t 8 → i < 2 ^ getD t 5 0

@@ -85,6 +85,9 @@ outputIn t inputs k i = getD t (entryAt inputs k i) 0
 unfoldable pub nextIn : List ℕ → ℕ → ℕ → ℕ → ℕ
 nextIn t inputs k i = getD t (entryAt inputs k i + 1) 0
 
+unfoldable pub entryOf : List ℕ → ℕ → ℕ → ℕ → List ℕ
+entryOf t inputs k i = entryText (outputIn t inputs k i) (nextIn t inputs k i)
+
 -- the line of a state
 unfoldable pub rowOf : List ℕ → ℕ → ℕ → List ℕ
 rowOf t inputs k = rowText inputs (outputIn t inputs k) (nextIn t inputs k) k

@@ -1,0 +1,70 @@
+// The pieces of a listing. Each is put at a place of the text memory, and answers the place after it.
+use records::layout::Layout;
+use records::numbers::pow2;
+use records::numbers::u16_at;
+ghost use mathlib.Core.Path.{_≡_};
+ghost use mathlib.Core.List.{[], _∷_};
+ghost use Prim.Native.Nat.{_+_, _^_, _≤_, _<_};
+ghost use lib.ListN.{length, getD};
+ghost use Rattle.records.specs.Lists.{cat};
+ghost use Rattle.records.specs.Numbers.{u16At};
+ghost use Rattle.report.specs.Listing.{decimal, headLine, entryText, entryOf, rowOf, listingOf};
+ghost use Rattle.report.specs.Promises.{Put, Filled};
+
+// One byte.
+pub fn put_byte(text: &mut [u8], at: usize, byte: u8) -> usize
+    requires { ⌜ at < length (now text) ⌝ }
+    ensures { λ r. ⌜ Put (now (text .entry)) at (byte ∷ []) r (now (text .exit)) ⌝ }
+{
+    text[at] = byte;
+    at + 1
+}
+
+// The code of a digit.
+fn digit(n: usize) -> u8
+    requires { ⌜ n < 10 ⌝ }
+    ensures { λ r. ⌜ r ≡ 48 + n ⌝ }
+{
+    b'0' + n as u8
+}
+
+// A number in decimal.
+pub fn put_number(text: &mut [u8], at: usize, n: usize) -> usize
+    requires { ⌜ (n < 1000) × (at + length (decimal n) ≤ length (now text)) ⌝ }
+    ensures { λ r. ⌜ Put (now (text .entry)) at (decimal n) r (now (text .exit)) ⌝ }
+{
+    if n < 10 {
+        return put_byte(text, at, digit(n));
+    }
+    if n < 100 {
+        let ones = put_byte(text, at, digit(n / 10));
+        return put_byte(text, ones, digit(n % 10));
+    }
+    let tens = put_byte(text, at, digit(n / 100));
+    let ones = put_byte(text, tens, digit(n / 10 % 10));
+    put_byte(text, ones, digit(n % 10))
+}
+
+// A word as it stands.
+pub fn put_word(text: &mut [u8], at: usize, word: &[u8]) -> usize
+    requires { ⌜ at + length (now word) ≤ length (now text) ⌝ }
+    ensures { λ r. ⌜ Put (now (text .entry)) at (now (word .entry)) r (now (text .exit)) ⌝ }
+{
+    let mut i: usize = 0;
+    while i < word.len() {
+        text[at + i] = word[i];
+        i += 1;
+    }
+    at + i
+}
+
+// An entry, ' output>next'.
+pub fn put_entry(text: &mut [u8], at: usize, output: u8, next: u8) -> usize
+    requires { ⌜ at + length (entryText output next) ≤ length (now text) ⌝ }
+    ensures { λ r. ⌜ Put (now (text .entry)) at (entryText output next) r (now (text .exit)) ⌝ }
+{
+    let start = put_byte(text, at, b' ');
+    let end = put_number(text, start, output as usize);
+    let target = put_byte(text, end, b'>');
+    put_number(text, target, next as usize)
+}
