@@ -35,6 +35,7 @@ use Rattle.report.specs.Listing.{
   refusedText,
   outputIn,
   nextIn,
+  entryOf,
   rowOf,
   listingOf,
 }
@@ -166,11 +167,29 @@ pub put-more : (f : ℕ → List ℕ) (k : ℕ) {before : List ℕ} {at place en
     → Put before at (cat k f) place now → Put now place (f k) end after → Put before at (cat (k + 1) f) end after
 put-more f k p q = rw cat-more (put-then p q)
 
--- a block lies inside
-pub cat-inside : (n : ℕ) (f : ℕ → List ℕ) (k : ℕ) → k < n → length (cat k f) + length (f k) ≤ length (cat n f)
-cat-inside n f k h =
+pub put-all : (f : ℕ → List ℕ) (k n : ℕ) → k ≡ n → {before : List ℕ} {at place : ℕ} {now : List ℕ}
+    → Put before at (cat k f) place now → Put before at (cat n f) place now
+put-all f k n e p = put-as p (ap (λ (m : ℕ). cat m f) e)
+
+-- where all fit, the next one does
+pub fits-next : (f : ℕ → List ℕ) (k n : ℕ) → k < n → {before : List ℕ} {at place : ℕ} {now : List ℕ}
+    → Put before at (cat k f) place now → at + length (cat n f) ≤ length before → place + length (f k) ≤ length now
+fits-next f k n h p room =
     let r = cat-at n f k h in
-    omega (arith, ap length (r .1), length-append (cat k f) (f k ++ r .0), length-append (f k) (r .0))
+    omega (
+      arith,
+      put-same p,
+      p .place-is,
+      ap length (r .1),
+      length-append (cat k f) (f k ++ r .0),
+      length-append (f k) (r .0),
+    )
+
+-- the entry that was found where the layout puts it
+pub entry-found : (t : List ℕ) (inputs k i : ℕ) {at : ℕ} → at ≡ entryAt inputs k i
+    → entryText (getD t at 0) (getD t (at + 1) 0) ≡ entryOf t inputs k i
+unfolding entryOf outputIn nextIn
+entry-found t inputs k i e = rw e
 
 -- ---- how long a listing is
 

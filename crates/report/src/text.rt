@@ -68,3 +68,28 @@ pub fn put_entry(text: &mut [u8], at: usize, output: u8, next: u8) -> usize
     let target = put_byte(text, end, b'>');
     put_number(text, target, next as usize)
 }
+
+// The entries of a state, one for each input.
+pub fn put_entries(
+    text: &mut [u8],
+    at: usize,
+    table: &[u8],
+    inputs: u8,
+    count: usize,
+    k: usize,
+) -> usize
+    requires { ⌜ Filled (now table) inputs count × (k < count) ⌝ }
+    requires { ⌜ at + length (cat (2 ^ inputs) (entryOf (now table) inputs k)) ≤ length (now text) ⌝ }
+    ensures { λ r. ⌜ Put (now (text .entry)) at (cat (2 ^ inputs) (entryOf (now (table .entry)) inputs k)) r (now (text .exit)) ⌝ }
+{
+    let layout = Layout { inputs };
+    let entries = pow2(inputs);
+    let mut place = at;
+    let mut i: usize = 0;
+    while i < entries {
+        let entry = layout.entry_at(k, i);
+        place = put_entry(text, place, table[entry], table[entry + 1]);
+        i += 1;
+    }
+    place
+}
