@@ -93,3 +93,37 @@ pub fn put_entries(
     }
     place
 }
+
+// The line of a state.
+pub fn put_row(
+    text: &mut [u8],
+    at: usize,
+    table: &[u8],
+    inputs: u8,
+    count: usize,
+    k: usize,
+) -> usize
+    requires { ⌜ Filled (now table) inputs count × (k < count) ⌝ }
+    requires { ⌜ at + length (rowOf (now table) inputs k) ≤ length (now text) ⌝ }
+    ensures { λ r. ⌜ Put (now (text .entry)) at (rowOf (now (table .entry)) inputs k) r (now (text .exit)) ⌝ }
+{
+    let end = put_number(text, at, k);
+    let start = put_byte(text, end, b':');
+    let stop = put_entries(text, start, table, inputs, count, k);
+    put_byte(text, stop, b'\n')
+}
+
+// The lines of the states.
+pub fn put_rows(text: &mut [u8], at: usize, table: &[u8], inputs: u8, count: usize) -> usize
+    requires { ⌜ Filled (now table) inputs count ⌝ }
+    requires { ⌜ at + length (cat count (rowOf (now table) inputs)) ≤ length (now text) ⌝ }
+    ensures { λ r. ⌜ Put (now (text .entry)) at (cat count (rowOf (now (table .entry)) inputs)) r (now (text .exit)) ⌝ }
+{
+    let mut place = at;
+    let mut k: usize = 0;
+    while k < count {
+        place = put_row(text, place, table, inputs, count, k);
+        k += 1;
+    }
+    place
+}
