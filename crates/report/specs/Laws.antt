@@ -28,6 +28,7 @@ use Rattle.report.specs.Listing.{
   outputsWord,
   horizonWord,
   lineEnd,
+  labelled,
   headLine,
   entryText,
   rowText,
@@ -191,6 +192,12 @@ pub entry-found : (t : List ℕ) (inputs k i : ℕ) {at : ℕ} → at ≡ entryA
 unfolding entryOf outputIn nextIn
 entry-found t inputs k i e = rw e
 
+-- the listing of a table whose count was read: the first line, then the lines of the states
+pub listing-parts : (t : List ℕ) {count : ℕ} → count ≡ u16At t 8
+    → headLine count (getD t 5 0) (getD t 6 0) (getD t 7 0) ++ cat count (rowOf t (getD t 5 0)) ≡ listingOf t
+unfolding listingOf listing rowOf
+listing-parts t e = rw e
+
 -- ---- how long a listing is
 
 cat-most : (n c : ℕ) (f : ℕ → List ℕ) → ((k : ℕ) → k < n → length (f k) ≤ c) → length (cat n f) ≤ n * c
@@ -216,7 +223,7 @@ row-most inputs out next k h l e =
 
 head-most : (count inputs outputs horizon : ℕ) → count < 1000 → inputs < 10 → outputs < 10 → horizon < 100
     → length (headLine count inputs outputs horizon) ≤ 41
-unfolding headLine
+unfolding headLine labelled
 head-most count inputs outputs horizon a b c d =
     simp length-append
     (omega (arith, three-most count a, one-digit inputs b, one-digit outputs c, two-most horizon d))

@@ -53,11 +53,14 @@ lineEnd = 10 ∷ []
 
 -- ---- lines
 
+-- a word, and a number after it
+unfoldable pub labelled : List ℕ → ℕ → List ℕ
+labelled word n = word ++ decimal n
+
 unfoldable pub headLine : ℕ → ℕ → ℕ → ℕ → List ℕ
 headLine count inputs outputs horizon =
-    statesWord
-    ++ (decimal count
-    ++ (inputsWord ++ (decimal inputs ++ (outputsWord ++ (decimal outputs ++ (horizonWord ++ (decimal horizon ++ lineEnd)))))))
+    labelled statesWord count
+    ++ (labelled inputsWord inputs ++ (labelled outputsWord outputs ++ (labelled horizonWord horizon ++ lineEnd)))
 
 -- an entry, ' output>next'
 unfoldable pub entryText : ℕ → ℕ → List ℕ
@@ -74,7 +77,7 @@ listing count inputs outputs horizon out next =
 
 -- what is said of a sheet that is refused
 unfoldable pub refusedText : ℕ → List ℕ
-refusedText number = refusedWord ++ (decimal number ++ lineEnd)
+refusedText number = labelled refusedWord number ++ lineEnd
 
 -- ---- the listing of a guard table's bytes
 

@@ -8,7 +8,7 @@ ghost use Prim.Native.Nat.{_+_, _^_, _≤_, _<_};
 ghost use lib.ListN.{length, getD};
 ghost use Rattle.records.specs.Lists.{cat};
 ghost use Rattle.records.specs.Numbers.{u16At};
-ghost use Rattle.report.specs.Listing.{decimal, headLine, entryText, entryOf, rowOf, listingOf};
+ghost use Rattle.report.specs.Listing.{decimal, labelled, headLine, entryText, entryOf, rowOf, listingOf};
 ghost use Rattle.report.specs.Promises.{Put, Filled};
 
 // One byte.
@@ -126,4 +126,37 @@ pub fn put_rows(text: &mut [u8], at: usize, table: &[u8], inputs: u8, count: usi
         k += 1;
     }
     place
+}
+
+// A word, and a number after it.
+pub fn put_labelled(text: &mut [u8], at: usize, word: &[u8], n: usize) -> usize
+    requires { ⌜ (n < 1000) × (at + length (labelled (now word) n) ≤ length (now text)) ⌝ }
+    ensures { λ r. ⌜ Put (now (text .entry)) at (labelled (now (word .entry)) n) r (now (text .exit)) ⌝ }
+{
+    let end = put_word(text, at, word);
+    put_number(text, end, n)
+}
+
+// The first line.
+pub fn put_head(text: &mut [u8], count: usize, inputs: u8, outputs: u8, horizon: u8) -> usize
+    requires { ⌜ (count < 1000) × (length (headLine count inputs outputs horizon) ≤ length (now text)) ⌝ }
+    ensures { λ r. ⌜ Put (now (text .entry)) 0 (headLine count inputs outputs horizon) r (now (text .exit)) ⌝ }
+{
+    let states_end = put_labelled(text, 0, b"states ", count);
+    let inputs_end = put_labelled(text, states_end, b" inputs ", inputs as usize);
+    let outputs_end = put_labelled(text, inputs_end, b" outputs ", outputs as usize);
+    let end = put_labelled(text, outputs_end, b" horizon ", horizon as usize);
+    put_byte(text, end, b'\n')
+}
+
+// The listing of a table.
+pub fn put_listing(text: &mut [u8], table: &[u8]) -> usize
+    requires { ⌜ (10 ≤ length (now table)) × Filled (now table) (getD (now table) 5 0) (u16At (now table) 8) ⌝ }
+    requires { ⌜ length (listingOf (now table)) ≤ length (now text) ⌝ }
+    ensures { λ r. ⌜ Put (now (text .entry)) 0 (listingOf (now (table .entry))) r (now (text .exit)) ⌝ }
+{
+    let inputs = table[5];
+    let count = u16_at(table, 8) as usize;
+    let end = put_head(text, count, inputs, table[6], table[7]);
+    put_rows(text, end, table, inputs, count)
 }
