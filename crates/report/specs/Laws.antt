@@ -4,14 +4,14 @@ use mathlib.Core.Path.{_≡_, refl, sym, ap, _∙_}
 use mathlib.Core.Bool.{Bool, true, false}
 use mathlib.Core.List.{List, [], _∷_, _++_}
 use Prim.Native.Nat.{ℕ, zero, suc, _+_, _*_, _/_, _%_, _^_, _≤_, _<_}
-use native.Mathlib.Nat.{suc-mul, mul-le-mul-right}
+use native.Mathlib.Nat.{suc-mul, zero-add}
 use native.Mathlib.Decide.{decLt}
 use native.Mathlib.Omega.{arith}
 use lib.Dec.{ltb, leb}
-use lib.ListN.{length, getD, set, length-append}
+use lib.ListN.{length, getD, set, take, length-append}
 use lib.Pow.{pow-mono}
 use lib.Seq.{sets, length-sets}
-use borrow.Author.Tests.{lt-ltb, le-ltb, ltb-true, ltb-false}
+use borrow.Author.Tests.{lt-ltb, le-ltb, le-leb, lt-leb, ltb-true}
 use Rattle.records.specs.Tests.{and-left, and-right}
 use Rattle.records.specs.Lists.{tab, length-tab, tab-self, cat, cat-none, cat-more, cat-ext, cat-at, sets-append, sets-more}
 use Rattle.records.specs.Numbers.{u16At}
@@ -40,7 +40,23 @@ use Rattle.report.specs.Listing.{
   rowOf,
   listingOf,
 }
-use Rattle.report.specs.Promises.{Put, Filled, textLength}
+use Rattle.sheet.specs.Layout.{groundNumber}
+use Rattle.sheet.specs.declared.layout.Refusal.{Refusal}
+use Rattle.supervisor.specs.declared.make.Made.{Made}
+use Rattle.supervisor.specs.declared.make.Made.the-variants.{Table, Refused}
+use Rattle.report.specs.Promises.{
+  Put,
+  Filled,
+  textLength,
+  lineLength,
+  Writes,
+  roomNumber,
+  listNumber,
+  outcomeNumber,
+  outcomeText,
+}
+use Rattle.report.specs.declared.Listed.{Listed}
+use Rattle.report.specs.declared.Listed.the-variants.{Text, NoTable, ShortText}
 
 -- ---- digits
 
@@ -198,6 +214,55 @@ pub listing-parts : (t : List ℕ) {count : ℕ} → count ≡ u16At t 8
 unfolding listingOf listing rowOf
 listing-parts t e = rw e
 
+-- ---- the answer
+
+pub writes-text : {number place : ℕ} {words before after : List ℕ} → number ≡ 0 → Put before 0 words place after
+    → Writes number words before (Text place) after
+writes-text {number} {place} {words} {before} {after} e p =
+    record { number-is = sym e; size = rw e (p .place-is ∙ zero-add (length words)); bytes = rw e (p .bytes) }
+
+pub writes-short : {number : ℕ} {words before : List ℕ} → number ≡ 9 → Writes number words before ShortText before
+writes-short e = record { number-is = sym e; size = rw e; bytes = rw e }
+
+pub writes-no-table : {number : ℕ} {words before : List ℕ} → number ≡ 11 → Writes number words before NoTable before
+writes-no-table e = record { number-is = sym e; size = rw e; bytes = rw e }
+
+-- the number that is due, as the tests find it
+pub room-short : (least room : ℕ) → room < least → roomNumber least room ≡ 9
+unfolding roomNumber
+room-short least room h = rw (lt-leb least room h)
+
+pub room-enough : (least room : ℕ) → least ≤ room → roomNumber least room ≡ 0
+unfolding roomNumber
+room-enough least room h = rw (le-leb least room h)
+
+pub list-number : (t : List ℕ) (room : ℕ) → loadable t ≡ true → listNumber t room ≡ roomNumber textLength room
+unfolding listNumber
+list-number t room e = rw e
+
+pub no-table : (t : List ℕ) (room : ℕ) → loadable t ≡ false → listNumber t room ≡ 11
+unfolding listNumber
+no-table t room e = rw e
+
+-- what was made is told by the call for its case
+module _ (made : Made) (result : List ℕ) {before : List ℕ} where
+  pub outcome-refused : {ground : Refusal} → made ≡ Refused ground → {r : Listed} {number : ℕ} {after : List ℕ} → number ≡ groundNumber ground
+      → Writes (roomNumber lineLength (length before)) (refusedText number) before r after
+      → Writes (outcomeNumber made result (length before)) (outcomeText made result) before r after
+  unfolding outcomeNumber outcomeText
+  outcome-refused e f w = rw (e, ← f) w
+
+  module _ {size states : ℕ} (e : made ≡ Table size states) where
+    pub outcome-listed : size ≤ length result → {r : Listed} {after : List ℕ}
+        → Writes (listNumber (take size result) (length before)) (listingOf (take size result)) before r after
+        → Writes (outcomeNumber made result (length before)) (outcomeText made result) before r after
+    unfolding outcomeNumber outcomeText
+    outcome-listed h w = rw (e, le-leb size (length result) h) w
+
+    pub outcome-no-table : length result < size → Writes (outcomeNumber made result (length before)) (outcomeText made result) before NoTable before
+    unfolding outcomeNumber outcomeText
+    outcome-no-table h = rw (e, lt-leb size (length result) h) (writes-no-table refl)
+
 -- ---- how long a listing is
 
 cat-most : (n c : ℕ) (f : ℕ → List ℕ) → ((k : ℕ) → k < n → length (f k) ≤ c) → length (cat n f) ≤ n * c
@@ -263,6 +328,18 @@ listing-most t e =
       head-most count inputs (getD t 6 0) (getD t 7 0) (omega (arith, head .count-most)) (omega (arith, lines .inputs-most))
           (omega (arith, lines .outputs-most)) (omega (arith, far .most)),
     )
+
+-- a loadable table is as long as its head says
+pub loadable-filled : (t : List ℕ) → loadable t ≡ true → Filled t (getD t 5 0) (u16At t 8)
+loadable-filled t e =
+    let head = loadable-head t e in
+    let lines = lines-facts (getD t 4 0) (getD t 5 0) (getD t 6 0) (head .lines) in
+    record { inputs-most = lines .inputs-most; count-most = head .count-most; fills = head .fills }
+
+-- and how long the line of a refusal is
+pub refused-most : (number : ℕ) → number < 1000 → length (refusedText number) ≤ lineLength
+unfolding refusedText labelled
+refused-most number h = simp length-append (omega (arith, three-most number h))
 
 -- ---- the listing of a made table is that of its entries
 

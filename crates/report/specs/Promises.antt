@@ -5,12 +5,15 @@ use mathlib.Core.Bool.{cond}
 use mathlib.Core.List.{List}
 use Prim.Native.Nat.{ℕ, _+_, _≤_}
 use lib.Dec.{leb, eqb}
-use lib.ListN.{length}
+use lib.ListN.{length, take}
 use lib.Seq.{sets}
 use Rattle.records.specs.Limits.{maxStates}
 use Rattle.records.specs.Layout.{tableLength}
 use Rattle.board.specs.Table.{loadable}
-use Rattle.report.specs.Listing.{listingOf, refusedText, tooLongText}
+use Rattle.sheet.specs.Layout.{groundNumber}
+use Rattle.supervisor.specs.declared.make.Made.{Made}
+use Rattle.supervisor.specs.declared.make.Made.the-variants.{Table, Refused}
+use Rattle.report.specs.Listing.{listingOf, refusedText}
 use Rattle.report.specs.declared.Listed.{Listed}
 use Rattle.report.specs.declared.Listed.the-variants.{Text, NoTable, ShortText}
 
@@ -61,3 +64,12 @@ roomNumber least room = cond (leb least room) 0 9
 -- for a listing: 11, then 9
 unfoldable pub listNumber : List ℕ → ℕ → ℕ
 listNumber t room = cond (loadable t) (roomNumber textLength room) 11
+
+-- for what a maker answered, whose table, if it made one, is at the start of `result`
+unfoldable pub outcomeNumber : Made → List ℕ → ℕ → ℕ
+outcomeNumber (Table size states) result room = cond (leb size (length result)) (listNumber (take size result) room) 11
+outcomeNumber (Refused ground) result room = roomNumber lineLength room
+
+unfoldable pub outcomeText : Made → List ℕ → List ℕ
+outcomeText (Table size states) result = listingOf (take size result)
+outcomeText (Refused ground) result = refusedText (groundNumber ground)
