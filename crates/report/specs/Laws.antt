@@ -217,15 +217,16 @@ listing-parts t e = rw e
 -- ---- the answer
 
 pub writes-text : {number place : ℕ} {words before after : List ℕ} → number ≡ 0 → Put before 0 words place after
-    → Writes number words before (Text place) after
-writes-text {number} {place} {words} {before} {after} e p =
-    record { number-is = sym e; size = rw e (p .place-is ∙ zero-add (length words)); bytes = rw e (p .bytes) }
+    → length words ≤ length before → Writes number words before (Text place) after
+writes-text {number} {place} {words} {before} {after} e p h =
+    let size : place ≡ length words = p .place-is ∙ zero-add (length words) in
+    record { number-is = sym e; size = rw e size; bytes = rw e (p .bytes); inside = omega (arith, size, put-same p) }
 
 pub writes-short : {number : ℕ} {words before : List ℕ} → number ≡ 9 → Writes number words before ShortText before
-writes-short e = record { number-is = sym e; size = rw e; bytes = rw e }
+writes-short e = record { number-is = sym e; size = rw e; bytes = rw e; inside = omega arith }
 
 pub writes-no-table : {number : ℕ} {words before : List ℕ} → number ≡ 11 → Writes number words before NoTable before
-writes-no-table e = record { number-is = sym e; size = rw e; bytes = rw e }
+writes-no-table e = record { number-is = sym e; size = rw e; bytes = rw e; inside = omega arith }
 
 -- the number that is due, as the tests find it
 pub room-short : (least room : ℕ) → room < least → roomNumber least room ≡ 9

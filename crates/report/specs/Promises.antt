@@ -46,6 +46,8 @@ pub record Writes (number : ℕ) (words before : List ℕ) (r : Listed) (after :
   pub number-is : listedNumber r ≡ number
   pub size : listedLength r ≡ cond (eqb number 0) (length words) 0
   pub bytes : after ≡ cond (eqb number 0) (sets before 0 words) before
+  -- and the whole text is there
+  pub inside : listedLength r ≤ length after
 
 -- ---- the public calls
 

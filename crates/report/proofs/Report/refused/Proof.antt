@@ -38,7 +38,8 @@ put-byte-requires c κs = let at = c .before .before .before in
 returns-2 : tie.Need-returns-2
 unfolding refusedText
 returns-2 c = let at = c .before .before in
-    writes-text (room-enough _ _ (omega arith)) (put-then (at .before .before .before .before .put-labelled .ensures) (at .put-byte .ensures))
+    let done = at .before .before .before .before in
+    writes-text (room-enough _ _ (omega arith)) (put-then (done .put-labelled .ensures) (at .put-byte .ensures)) (room (enough done))
 
 same-length : tie.Need-same-length
 same-length c = let at = c .before .before in

@@ -18,7 +18,7 @@ same-length : tie.Need-same-length
 same-length c = put-same (c .before .before .put-word .ensures)
 
 returns-2 : tie.Need-returns-2
-returns-2 c = writes-text (room-enough _ _ (omega arith)) (c .before .before .put-word .ensures)
+returns-2 c = writes-text (room-enough _ _ (omega arith)) (c .before .before .put-word .ensures) (omega arith)
 
 pub too-long-spec : {M : Type 1} → statement M
 too-long-spec = tie.close (tie.spec returns slice-aggregate-put-word put-word-requires same-length returns-2)
