@@ -1,0 +1,103 @@
+-- `listing::print_guard`: what the maker answered is told. Assumes nothing.
+use mathlib.Core.Path.{refl}
+use native.Mathlib.Omega.{arith}
+use Rattle.listing.specs.Laws.{outcome-prints}
+use borrow.Author.Needs.{needs}
+use Rattle.listing.proofs.print_guard.Statement.{statement}
+use Rattle.listing.proofs.print_guard.Tie as tie
+
+-- the places that the promise looks back to
+abbrev made : tie.After-outcome → tie.After-make
+made c = c .before .before .before .before .before .before .before .before .before .before .before .before .before .before
+
+abbrev entered : tie.After-make → tie.After-shared-slice-known
+entered c = c .before .before .before .before .before .before .before .before .before .before .before .before .before
+
+slice-aggregate-make : tie.Need-slice-aggregate-make
+slice-aggregate-make c = search needs
+
+slice-aggregate-make-2 : tie.Need-slice-aggregate-make-2
+slice-aggregate-make-2 c = search needs
+
+slice-aggregate-make-3 : tie.Need-slice-aggregate-make-3
+slice-aggregate-make-3 c = search needs
+
+slice-aggregate-make-4 : tie.Need-slice-aggregate-make-4
+slice-aggregate-make-4 c = search needs
+
+slice-aggregate-make-5 : tie.Need-slice-aggregate-make-5
+slice-aggregate-make-5 c = search needs
+
+slice-aggregate-make-6 : tie.Need-slice-aggregate-make-6
+slice-aggregate-make-6 c = search needs
+
+slice-aggregate-make-7 : tie.Need-slice-aggregate-make-7
+slice-aggregate-make-7 c = search needs
+
+slice-aggregate-make-8 : tie.Need-slice-aggregate-make-8
+slice-aggregate-make-8 c = search needs
+
+slice-aggregate-make-9 : tie.Need-slice-aggregate-make-9
+slice-aggregate-make-9 c = search needs
+
+slice-aggregate-make-10 : tie.Need-slice-aggregate-make-10
+slice-aggregate-make-10 c = search needs
+
+slice-aggregate-make-11 : tie.Need-slice-aggregate-make-11
+slice-aggregate-make-11 c = search needs
+
+make-requires : tie.Need-make-requires
+make-requires c κs = search needs
+
+slice-aggregate-outcome : tie.Need-slice-aggregate-outcome
+slice-aggregate-outcome c = search needs
+
+outcome-requires : tie.Need-outcome-requires
+outcome-requires c κs = search needs
+
+written-requires : tie.Need-written-requires
+written-requires c κs = search needs
+
+same-length : tie.Need-same-length
+same-length c = search needs
+
+returns : tie.Need-returns
+returns c =
+    let told = c .before .before .before in
+    let done = made told in
+    outcome-prints (done .make .ensures .0) (λ k. omega (arith, entered done .shared-slice-known .given k)) refl
+    (record {
+      tuples = omega arith;
+      cells = omega arith;
+      dropped = omega arith;
+      gains = omega arith;
+      bonuses = omega arith;
+      values = omega arith;
+      next = omega arith;
+      choices = omega arith;
+      order = omega arith;
+      numbers = omega arith;
+    })
+    (omega (arith, entered done .before .pre)) (told .outcome .ensures) (c .written .ensures)
+
+pub print-guard-spec : {M : Type 1} → statement M
+print-guard-spec =
+    tie.close
+    (tie.spec
+    slice-aggregate-make
+    slice-aggregate-make-2
+    slice-aggregate-make-3
+    slice-aggregate-make-4
+    slice-aggregate-make-5
+    slice-aggregate-make-6
+    slice-aggregate-make-7
+    slice-aggregate-make-8
+    slice-aggregate-make-9
+    slice-aggregate-make-10
+    slice-aggregate-make-11
+    make-requires
+    slice-aggregate-outcome
+    outcome-requires
+    written-requires
+    same-length
+    returns)

@@ -1,0 +1,75 @@
+// Reads a sheet on standard input, and prints the listing of its guard, or why there is none.
+use guard::make::Guard;
+use libc::STDIN_FILENO;
+use libc::STDOUT_FILENO;
+use report::Listed;
+use report::Report;
+ghost use mathlib.Core.Path.{_≡_};
+ghost use Prim.Native.Nat.{_≤_};
+ghost use lib.ListN.{length};
+ghost use Rattle.report.specs.Promises.{textLength, listedLength};
+ghost use Rattle.listing.specs.Printed.{guardText, printed, Prints};
+
+// A sheet is read up to one byte more than it may have.
+fn main() {
+    let mut sheet = [0u8; 16_385];
+    let mut text = [0u8; Report::TEXT];
+    let size = io::read_full(STDIN_FILENO, &mut sheet);
+    let length = print(&sheet[..size], &mut text);
+    io::write_all(STDOUT_FILENO, &text[..length]);
+}
+
+// What is printed for a sheet, at the start of the text memory; answers its length.
+fn print(sheet: &[u8], text: &mut [u8]) -> usize
+    requires { ⌜ textLength ≤ length (now text) ⌝ }
+    ensures { λ r. ⌜ Prints (printed (now (sheet .entry))) (now (text .entry)) r (now (text .exit)) ⌝ }
+{
+    if 16_384 < sheet.len() {
+        return written(Report::too_long(text));
+    }
+    print_guard(sheet, text)
+}
+
+// The listing of a sheet's guard, or the line of its refusal. The result memory holds the longest table.
+fn print_guard(sheet: &[u8], text: &mut [u8]) -> usize
+    requires { ⌜ textLength ≤ length (now text) ⌝ }
+    ensures { λ r. ⌜ Prints (guardText (now (sheet .entry))) (now (text .entry)) r (now (text .exit)) ⌝ }
+{
+    let mut result = [0u8; 9_226];
+    let mut tuples = [0u8; Guard::TUPLES];
+    let mut cells = [0u16; Guard::CELLS];
+    let mut dropped = [0u16; Guard::DROPPED];
+    let mut gains = [0u16; Guard::GAINS];
+    let mut bonuses = [0u16; Guard::BONUSES];
+    let mut values = [0u64; Guard::VALUES];
+    let mut next = [0u64; Guard::NEXT];
+    let mut choices = [0u8; Guard::CHOICES];
+    let mut order = [0u16; Guard::ORDER];
+    let mut numbers = [0u16; Guard::NUMBERS];
+    let made = Guard::make(
+        sheet,
+        &mut result,
+        &mut tuples,
+        &mut cells,
+        &mut dropped,
+        &mut gains,
+        &mut bonuses,
+        &mut values,
+        &mut next,
+        &mut choices,
+        &mut order,
+        &mut numbers,
+    );
+    written(Report::outcome(made, &result, text))
+}
+
+// The length of a text that was written.
+fn written(listed: Listed) -> usize
+    ensures { λ r. ⌜ r ≡ listedLength listed ⌝ }
+{
+    match listed {
+        Listed::Text(size) => size,
+        Listed::NoTable => 0,
+        Listed::ShortText => 0,
+    }
+}
