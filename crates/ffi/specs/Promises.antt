@@ -2,9 +2,10 @@
 -- Assumes nothing.
 use mathlib.Core.Path.{_≡_}
 use mathlib.Core.Bool.{cond}
-use mathlib.Core.List.{List}
+use mathlib.Core.List.{List, [], _∷_}
 use Prim.Native.Nat.{ℕ, _+_, _*_}
 use lib.Dec.{eqb}
+use lib.Seq.{sets}
 use Rattle.board.specs.Board.{changeNumber}
 use Rattle.board.specs.Table.{loadNumber}
 use Rattle.board.specs.Step.{stepNumber, stepOutput}
@@ -14,6 +15,10 @@ use Rattle.board.specs.declared.answers.Step.{Step}
 use Rattle.board.specs.declared.answers.Loading.{Loading}
 use Rattle.board.specs.declared.answers.Stepping.{Stepping}
 use Rattle.board.specs.declared.answers.Changing.{Changing}
+use Rattle.supervisor.specs.Making.{madeNumber, madeLength, madeStates}
+use Rattle.supervisor.specs.Promises.{MakesSupervisor}
+use Rattle.supervisor.specs.declared.make.Made.{Made}
+use Rattle.guard.specs.Promises.{Work, MakesGuard}
 use Rattle.ffi.specs.Bytes.{boardIn, boardBytes}
 
 -- ---- boards: `before` and `after` are the board's bytes
@@ -50,3 +55,23 @@ Rewinds before = Changes (RewindPromise (boardIn before)) before
 
 abbrev pub Unloads : List ℕ → ℕ → List ℕ → Type 0
 Unloads before = Changes (UnloadPromise (boardIn before)) before
+
+-- ---- makers: `before` and `after` are the result memory, `old` and `new` the figures
+
+-- the figures of an answer: the table's length and states, 0 on a refusal
+abbrev pub figuresOf : Made → List ℕ
+figuresOf made = madeLength made ∷ madeStates made ∷ []
+
+-- an answer as the maker promises it, reported by its number and figures
+pub record Reports (promise : Made → Type 0) (r : ℕ) (old new : List ℕ) : Type 0 where
+  pub made : Made
+  pub promised : promise made
+  pub number : r ≡ madeNumber made
+  -- then the old rest
+  pub figures : new ≡ sets old 0 (figuresOf made)
+
+abbrev pub ReportsSupervisor : List ℕ → List ℕ → ℕ → ℕ → ℕ → List ℕ → ℕ → List ℕ → List ℕ → Type 0
+ReportsSupervisor s before tuples cells dropped after = Reports (λ made. MakesSupervisor s before tuples cells dropped made after)
+
+abbrev pub ReportsGuard : List ℕ → List ℕ → Work → List ℕ → ℕ → List ℕ → List ℕ → Type 0
+ReportsGuard s before work after = Reports (λ made. MakesGuard s before work made after)

@@ -1,4 +1,8 @@
 -- `ffi::numbers::step_answer`: case by case. Assumes nothing.
+use mathlib.Core.Path.{sym, ap, _∙_}
+use Prim.Native.Nat.{_*_}
+use native.Mathlib.Nat.{zero-add}
+use Rattle.ffi.specs.Promises.{stepAnswer}
 use borrow.Author.Needs.{needs}
 use Rattle.ffi.proofs.numbers.step_answer.Statement.{statement}
 use Rattle.ffi.proofs.numbers.step_answer.Tie as tie
@@ -25,19 +29,19 @@ enum-told-4 : tie.Need-enum-told-4
 enum-told-4 c = search needs
 
 returns : tie.Need-returns
-returns c = rw (c .known-told .given)
+returns c = sym (ap stepAnswer (c .before .answer .given .1) ∙ zero-add (65536 * c .before .answer .given .0 .0))
 
 returns-2 : tie.Need-returns-2
-returns-2 c = rw (c .enum-told .given)
+returns-2 c = rw (c .enum-told .given .1)
 
 returns-3 : tie.Need-returns-3
-returns-3 c = rw (c .enum-told2 .given)
+returns-3 c = rw (c .enum-told2 .given .1)
 
 returns-4 : tie.Need-returns-4
-returns-4 c = rw (c .enum-told3 .given)
+returns-4 c = rw (c .enum-told3 .given .1)
 
 returns-5 : tie.Need-returns-5
-returns-5 c = rw (c .enum-told4 .given)
+returns-5 c = rw (c .enum-told4 .given .1)
 
 pub step-answer-spec : {M : Type 1} → statement M
 step-answer-spec =
