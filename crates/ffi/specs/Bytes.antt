@@ -54,8 +54,10 @@ board-back b = simp (bit (b .loaded), two, four)
     bit : (x : Bool) → eqb (cond x 1 0) 1 ≡ x
     bit true = refl
     bit false = refl
+
     two : (v : ℕ) → v % 256 + 256 * (v / 256) ≡ v
     two v = omega arith
+
     four : (v : ℕ) → v % 65536 + 65536 * (v / 65536) ≡ v
     four v = omega arith
 

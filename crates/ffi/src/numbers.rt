@@ -80,7 +80,10 @@ pub fn made_number(made: Made) -> u32
     ensures { λ r. ⌜ r ≡ madeNumber made ⌝ }
 {
     match made {
-        Made::Table { length: _, states: _ } => 0,
+        Made::Table {
+            length: _,
+            states: _,
+        } => 0,
         Made::Refused(ground) => ground_number(ground),
     }
 }

@@ -20,7 +20,7 @@ same-length : tie.Need-same-length
 same-length c = search needs
 
 returns : tie.Need-returns
-returns c = 
+returns c =
     let put = c .before .before in
     let known = put .before .before in
     let answered = known .before in
@@ -32,7 +32,7 @@ same-length-2 : tie.Need-same-length-2
 same-length-2 c = search needs
 
 returns-2 : tie.Need-returns-2
-returns-2 c = 
+returns-2 c =
     let answered = c .before in
     let called = answered .before .before in
     loads _ _ _ _ _ _ (called .before .board-in .ensures) (called .load .ensures) (answered .load-number .ensures) (untouched _ _ _ (c .if1 .left))

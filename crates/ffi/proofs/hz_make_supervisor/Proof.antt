@@ -25,10 +25,9 @@ same-length-5 : tie.Need-same-length-5
 same-length-5 c = search needs
 
 returns : tie.Need-returns
-returns c = 
+returns c =
     let told = c .before .before in
-    let called = told .before .before .before .before .before .before .before .before .before .before in
-    (
+    let called = told .before .before .before .before .before .before .before .before .before .before in (
       record {
         made = called .make .result;
         promised = called .make .ensures .0;

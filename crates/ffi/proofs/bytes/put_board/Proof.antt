@@ -24,7 +24,7 @@ same-length c = search needs
 
 returns : tie.Need-returns
 unfolding boardBytes
-returns c = 
+returns c =
     let deviations = c .before .before in
     let steps = deviations .before .before .before .before in
     let place = steps .before .before .before .before in

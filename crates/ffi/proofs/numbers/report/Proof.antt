@@ -22,7 +22,7 @@ same-length : tie.Need-same-length
 same-length c = search needs
 
 returns : tie.Need-returns
-returns c = 
+returns c =
     let states = c .before in
     let size = states .before in
     (c .made-number .ensures, rw (size .made-length .ensures, states .made-states .ensures))
