@@ -1,3 +1,2 @@
--- The calls for other languages: the bytes of a board, and what each call promises.
-pub mod Bytes
+-- The calls for other languages: what the makers promise there.
 pub mod Promises

@@ -1,12 +1,6 @@
 // The public calls for programs in other languages: each is one call of a crate below, and its promise is that call's.
 // A slice crosses as a pointer and a length, a board as its 16 bytes, an answer as document 01's number.
-use crate::bytes::board_in;
-use crate::bytes::put_board;
-use crate::numbers::change_number;
-use crate::numbers::load_number;
-use crate::numbers::report;
-use crate::numbers::step_answer;
-use crate::numbers::step_number;
+use bytes::numbers::report;
 use guard::make::Guard;
 use supervisor::make::Supervisor;
 ghost use mathlib.Core.Path.{_≡_};
@@ -14,11 +8,9 @@ ghost use Prim.Native.Nat.{_≤_};
 ghost use lib.ListN.{length};
 ghost use Rattle.records.specs.Numbers.{zeros};
 ghost use Rattle.guard.specs.Lent.{lent};
-ghost use Rattle.ffi.specs.Bytes.{boardLength};
-ghost use Rattle.ffi.specs.Promises.{ReportsSupervisor, ReportsGuard, Loads, Steps, Rewinds, Unloads};
-
-pub mod bytes;
-pub mod numbers;
+ghost use Rattle.bytes.specs.Layout.{boardLength};
+ghost use Rattle.bytes.specs.Promises.{Loads, Steps, Rewinds, Unloads};
+ghost use Rattle.ffi.specs.Promises.{ReportsSupervisor, ReportsGuard};
 
 // Makes a supervisor table.
 #[no_mangle]
@@ -93,14 +85,7 @@ pub extern "C" fn hz_load(board: &mut [u8], table: &[u8]) -> u32
     requires { ⌜ length (now board) ≡ boardLength ⌝ }
     ensures { λ r. ⌜ Loads (now (board .entry)) (now (table .entry)) r (now (board .exit)) ⌝ }
 {
-    let loading = board_in(board).load(table);
-    let after = loading.board;
-    let answer = loading.answer;
-    let number = load_number(answer);
-    if number == 0 {
-        put_board(board, after);
-    }
-    number
+    bytes::load(board, table)
 }
 
 // Answers an input: the number, and 65,536 times the output.
@@ -109,14 +94,7 @@ pub extern "C" fn hz_step(board: &mut [u8], table: &[u8], input: u8) -> u32
     requires { ⌜ length (now board) ≡ boardLength ⌝ }
     ensures { λ r. ⌜ Steps (now (board .entry)) (now (table .entry)) input r (now (board .exit)) ⌝ }
 {
-    let stepping = board_in(board).step(table, input);
-    let after = stepping.board;
-    let answer = stepping.answer;
-    let given = step_answer(answer);
-    if step_number(answer) == 0 {
-        put_board(board, after);
-    }
-    given
+    bytes::step(board, table, input)
 }
 
 // Begins the run anew.
@@ -125,14 +103,7 @@ pub extern "C" fn hz_rewind(board: &mut [u8]) -> u32
     requires { ⌜ length (now board) ≡ boardLength ⌝ }
     ensures { λ r. ⌜ Rewinds (now (board .entry)) r (now (board .exit)) ⌝ }
 {
-    let changing = board_in(board).rewind();
-    let after = changing.board;
-    let answer = changing.answer;
-    let number = change_number(answer);
-    if number == 0 {
-        put_board(board, after);
-    }
-    number
+    bytes::rewind(board)
 }
 
 // Empties the board.
@@ -141,12 +112,5 @@ pub extern "C" fn hz_unload(board: &mut [u8]) -> u32
     requires { ⌜ length (now board) ≡ boardLength ⌝ }
     ensures { λ r. ⌜ Unloads (now (board .entry)) r (now (board .exit)) ⌝ }
 {
-    let changing = board_in(board).unload();
-    let after = changing.board;
-    let answer = changing.answer;
-    let number = change_number(answer);
-    if number == 0 {
-        put_board(board, after);
-    }
-    number
+    bytes::unload(board)
 }
