@@ -1,4 +1,6 @@
 -- `bytes::numbers::report`: two stores, and the number. Assumes nothing.
+use native.Mathlib.Omega.{arith}
+use lib.ListN.{length-set}
 use borrow.Author.Needs.{needs}
 use Rattle.bytes.proofs.numbers.report.Statement.{statement}
 use Rattle.bytes.proofs.numbers.report.Tie as tie
@@ -13,7 +15,7 @@ made-states-requires : tie.Need-made-states-requires
 made-states-requires c κs = search needs
 
 slice-write-figures-2 : tie.Need-slice-write-figures-2
-slice-write-figures-2 c = search needs
+slice-write-figures-2 c = simp length-set (omega arith)
 
 made-number-requires : tie.Need-made-number-requires
 made-number-requires c κs = search needs
