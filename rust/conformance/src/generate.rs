@@ -402,11 +402,33 @@ pub fn any_sheet(random: &mut Random) -> Vec<u8> {
             }
             bytes
         }
+        _ if random.once_in(3) => long_sheet(random),
         _ => {
             let count = random.pick(&[0, 1, 2, 3, 4, 5, 30, 300]);
             random.bytes(count)
         }
     }
+}
+
+/// A sheet with monitors of the most states, or with a record as long as one can be.
+fn long_sheet(random: &mut Random) -> Vec<u8> {
+    let shape = random.pick(&Shape::all());
+    let mut bytes = head(random, shape);
+    for _ in 0..random.below(8) {
+        let mut states = 0;
+        let mut record = Vec::new();
+        while states < 30 {
+            record = monitor(random, shape, SOFT, 32);
+            states = record[6];
+        }
+        bytes.extend(record);
+    }
+    if random.once_in(2) {
+        let length = random.pick(&[2_085, 20_000, 65_534, 65_535]);
+        let body = random.bytes(length);
+        bytes.extend(record(random.pick(&[1, 2, 3, 16, 258]), &body));
+    }
+    bytes
 }
 
 /// A loadable guard table with any entries.

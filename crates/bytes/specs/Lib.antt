@@ -1,0 +1,3 @@
+-- A board by its bytes, answers by their numbers, and what the calls over them promise.
+pub mod Layout
+pub mod Promises

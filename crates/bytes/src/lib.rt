@@ -1,0 +1,74 @@
+// The board's calls over a board's 16 bytes; an answer is document 01's number. On a refusal no byte is changed.
+use crate::layout::board_in;
+use crate::layout::put_board;
+use crate::numbers::change_number;
+use crate::numbers::load_number;
+use crate::numbers::step_answer;
+use crate::numbers::step_number;
+ghost use mathlib.Core.Path.{_≡_};
+ghost use lib.ListN.{length};
+ghost use Rattle.bytes.specs.Layout.{boardLength};
+ghost use Rattle.bytes.specs.Promises.{Loads, Steps, Rewinds, Unloads};
+
+pub mod layout;
+pub mod numbers;
+
+// Loads a table.
+pub fn load(board: &mut [u8], table: &[u8]) -> u32
+    requires { ⌜ length (now board) ≡ boardLength ⌝ }
+    ensures { λ r. ⌜ Loads (now (board .entry)) (now (table .entry)) r (now (board .exit)) ⌝ }
+{
+    let loading = board_in(board).load(table);
+    let after = loading.board;
+    let answer = loading.answer;
+    let number = load_number(answer);
+    if number == 0 {
+        put_board(board, after);
+    }
+    number
+}
+
+// Answers an input: the number, and 65,536 times the output.
+pub fn step(board: &mut [u8], table: &[u8], input: u8) -> u32
+    requires { ⌜ length (now board) ≡ boardLength ⌝ }
+    ensures { λ r. ⌜ Steps (now (board .entry)) (now (table .entry)) input r (now (board .exit)) ⌝ }
+{
+    let stepping = board_in(board).step(table, input);
+    let after = stepping.board;
+    let answer = stepping.answer;
+    let given = step_answer(answer);
+    if step_number(answer) == 0 {
+        put_board(board, after);
+    }
+    given
+}
+
+// Begins the run anew.
+pub fn rewind(board: &mut [u8]) -> u32
+    requires { ⌜ length (now board) ≡ boardLength ⌝ }
+    ensures { λ r. ⌜ Rewinds (now (board .entry)) r (now (board .exit)) ⌝ }
+{
+    let changing = board_in(board).rewind();
+    let after = changing.board;
+    let answer = changing.answer;
+    let number = change_number(answer);
+    if number == 0 {
+        put_board(board, after);
+    }
+    number
+}
+
+// Empties the board.
+pub fn unload(board: &mut [u8]) -> u32
+    requires { ⌜ length (now board) ≡ boardLength ⌝ }
+    ensures { λ r. ⌜ Unloads (now (board .entry)) r (now (board .exit)) ⌝ }
+{
+    let changing = board_in(board).unload();
+    let after = changing.board;
+    let answer = changing.answer;
+    let number = change_number(answer);
+    if number == 0 {
+        put_board(board, after);
+    }
+    number
+}

@@ -1,0 +1,2 @@
+-- The calls for other languages: what the makers promise there.
+pub mod Promises

@@ -1,0 +1,103 @@
+//! The safe interface against the reference: the tables read entry by entry, the refusals by their
+//! numbers, and a board's run.
+
+use conformance::{cases, generate, seed, subject, Random};
+use guard::{Board, Guard, Refusal, Supervisor, Work};
+use reference::{Kept, Mode, Product, Sheet, Values};
+
+/// Where the reference refuses a sheet, the wrapper gives the same number.
+fn refused<T>(made: Result<T, Refusal>, number: u32) {
+    assert_eq!(made.err().map(Refusal::number), Some(number));
+}
+
+fn check_supervisor(made: &Supervisor, sheet: &Sheet, product: &Product, kept: &Kept) {
+    assert_eq!((made.inputs(), made.outputs()), (sheet.inputs, sheet.outputs));
+    assert_eq!(made.states(), product.count());
+    for state in 0..made.states() {
+        assert_eq!(made.is_kept(state), kept.is_kept(state));
+        for input in 0..1 << sheet.inputs {
+            for output in 0..=u8::MAX {
+                let allowed = usize::from(output) < product.output_count()
+                    && kept.allowed(product, state, input.into(), output.into()).is_some();
+                assert_eq!(made.allows(state, input, output), allowed);
+            }
+        }
+    }
+}
+
+/// Walks the guard from its start beside the product: an entry's state is the product's.
+fn check_guard(made: &Guard, sheet: &Sheet, product: &Product, kept: &Kept, values: &Values) {
+    assert_eq!((made.inputs(), made.outputs()), (sheet.inputs, sheet.outputs));
+    assert_eq!(made.horizon(), sheet.horizon);
+    assert_eq!(made.is_shield(), sheet.mode == Mode::Shield);
+    let mut places = vec![None; made.states()];
+    places[0] = Some(0);
+    for state in 0..made.states() {
+        let place: usize = places[state].expect("states are numbered as first met");
+        for input in 0..1 << sheet.inputs {
+            let (output, next) = made.entry(state, input);
+            let chosen = values.choice(product, kept, place, input.into());
+            assert_eq!(chosen, Some((output, *places[next].get_or_insert(chosen.unwrap().1))));
+        }
+    }
+}
+
+#[test]
+#[cfg_attr(not(guard_library), ignore = "needs the library: rt staticlib ffi")]
+fn tables_are_read_as_they_are_meant() {
+    let mut work = Work::new();
+    let mut made = 0;
+    for case in 0..cases(2_000) {
+        let mut random = Random::new(seed(), case);
+        let bytes = generate::any_sheet(&mut random);
+        let found = (reference::supervisor_table(&bytes), reference::guard_table(&bytes));
+        let supervisor = Supervisor::make(&bytes, &mut work);
+        let guard = Guard::make(&bytes, &mut work);
+        if found.0.is_err() {
+            refused(supervisor, subject::number(&found.0));
+            refused(guard, subject::number(&found.1));
+            continue;
+        }
+        made += 1;
+        let (supervisor, guard) = (supervisor.expect("accepted"), guard.expect("accepted"));
+        assert_eq!(Ok(supervisor.as_bytes()), found.0.as_deref());
+        assert_eq!(Ok(guard.as_bytes()), found.1.as_deref());
+        let sheet = Sheet::parse(&bytes).expect("accepted");
+        let product = Product::explore(&sheet).expect("accepted");
+        let kept = Kept::by_rounds(&product);
+        let values = Values::over_horizon(&sheet, &product, &kept);
+        check_supervisor(&supervisor, &sheet, &product, &kept);
+        check_guard(&guard, &sheet, &product, &kept, &values);
+    }
+    assert!(made * 4 > cases(2_000), "too few sheets accepted");
+}
+
+/// Each call of a board in turn, with its fields.
+#[test]
+#[cfg_attr(not(guard_library), ignore = "needs the library: rt staticlib ffi")]
+fn a_board_runs() {
+    let never_on_twice = [0, 0, 3, 0, 1, 1, 0, 0, 1, 0, 2, 2, 2];
+    let sheet =
+        [generate::record(1, &[1, 0, 1, 0, 1, 0]), generate::record(2, &never_on_twice)].concat();
+    let table = Guard::make(&sheet, &mut Work::new()).unwrap();
+    let mut board = Board::new();
+    assert_eq!(board.step(&table, 0), Err(Refusal::Empty));
+    assert_eq!(board.load([0; 3]), Err(Refusal::Table));
+    assert_eq!(board, Board::new());
+    assert_eq!(board.load(&table), Ok(()));
+    assert_eq!(board.load(&table), Err(Refusal::Loaded));
+    let outputs = [1, 1, 1, 1].map(|proposal| board.step(&table, proposal).unwrap());
+    assert_eq!(outputs, [1, 0, 1, 0]);
+    assert_eq!((board.steps(), board.deviations()), (4, 2));
+    assert_eq!(board.step(&table, 2), Err(Refusal::Input));
+    assert_eq!(board.step(&table.as_bytes()[1..], 0), Err(Refusal::Table));
+    assert_eq!((board.steps(), board.deviations()), (4, 2));
+    let fields = board.fields();
+    assert_eq!((fields.loaded, fields.mode, fields.inputs, fields.outputs), (true, 1, 1, 1));
+    assert_eq!(board.rewind(), Ok(()));
+    assert_eq!((board.steps(), board.deviations(), board.fields().place), (0, 0, 0));
+    assert_eq!(board.unload(), Ok(()));
+    assert_eq!(board.to_bytes(), [0; guard::calls::BOARD_BYTES]);
+    assert_eq!(board.unload(), Err(Refusal::Empty));
+    assert_eq!(board.rewind(), Err(Refusal::Empty));
+}
