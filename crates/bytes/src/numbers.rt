@@ -59,23 +59,6 @@ pub fn change_number(answer: Change) -> u32
     }
 }
 
-pub fn ground_number(ground: Refusal) -> u32
-    ensures { λ r. ⌜ r ≡ groundNumber ground ⌝ }
-{
-    match ground {
-        Refusal::Truncated => 1,
-        Refusal::Misplaced => 2,
-        Refusal::BadHead => 3,
-        Refusal::BadMonitor => 4,
-        Refusal::SeventhMonitor => 5,
-        Refusal::LongHorizon => 6,
-        Refusal::TooManyStates => 7,
-        Refusal::Unrealizable => 8,
-        Refusal::ShortResult => 9,
-        Refusal::ShortWork => 10,
-    }
-}
-
 pub fn made_number(made: Made) -> u32
     ensures { λ r. ⌜ r ≡ madeNumber made ⌝ }
 {
@@ -84,7 +67,7 @@ pub fn made_number(made: Made) -> u32
             length: _,
             states: _,
         } => 0,
-        Made::Refused(ground) => ground_number(ground),
+        Made::Refused(ground) => ground.number() as u32,
     }
 }
 

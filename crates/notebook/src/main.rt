@@ -4,29 +4,9 @@ mod makers;
 
 use makers::counters_guard;
 use makers::counters_supervisor;
-use sheet::layout::Refusal;
 use supervisor::make::Made;
 ghost use mathlib.Core.Path.{_≡_};
 ghost use Prim.Native.Nat.{_≤_};
-ghost use Rattle.sheet.specs.Layout.{groundNumber};
-
-// Document 01's number of a ground.
-fn number_of(ground: Refusal) -> u64
-    ensures { λ r. ⌜ r ≡ groundNumber ground ⌝ }
-{
-    match ground {
-        Refusal::Truncated => 1,
-        Refusal::Misplaced => 2,
-        Refusal::BadHead => 3,
-        Refusal::BadMonitor => 4,
-        Refusal::SeventhMonitor => 5,
-        Refusal::LongHorizon => 6,
-        Refusal::TooManyStates => 7,
-        Refusal::Unrealizable => 8,
-        Refusal::ShortResult => 9,
-        Refusal::ShortWork => 10,
-    }
-}
 
 // The answer of a maker: the states of its table, or the number of the refusal.
 fn print_made(made: Made) {
@@ -37,7 +17,7 @@ fn print_made(made: Made) {
         }
         Made::Refused(ground) => {
             io::write_all(1, b"refused ");
-            io::print_decimal(1, number_of(ground));
+            io::print_decimal(1, ground.number() as u64);
             io::write_all(1, b"\n");
         }
     }

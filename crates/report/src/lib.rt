@@ -1,11 +1,10 @@
 // The listing of a guard table, and what is said where there is none, as text.
-use crate::text::ground_number;
 use crate::text::put_byte;
 use crate::text::put_labelled;
 use crate::text::put_listing;
 use crate::text::put_word;
-use tables::is_loadable;
 use supervisor::make::Made;
+use tables::is_loadable;
 ghost use lib.ListN.{length};
 ghost use Rattle.report.specs.Listing.{listingOf, refusedText, tooLongText};
 ghost use Rattle.report.specs.Promises.{lineLength, roomNumber, listNumber, outcomeNumber, outcomeText, Writes};
@@ -79,7 +78,7 @@ impl Report {
                 }
                 Report::list(&result[..length], text)
             }
-            Made::Refused(ground) => Report::refused(ground_number(ground), text),
+            Made::Refused(ground) => Report::refused(ground.number(), text),
         }
     }
 }

@@ -2,34 +2,14 @@
 use records::layout::Layout;
 use records::numbers::pow2;
 use records::numbers::u16_at;
-use sheet::layout::Refusal;
 ghost use mathlib.Core.Path.{_≡_};
 ghost use mathlib.Core.List.{[], _∷_};
 ghost use Prim.Native.Nat.{_+_, _^_, _≤_, _<_};
 ghost use lib.ListN.{length, getD};
 ghost use Rattle.records.specs.Lists.{cat};
 ghost use Rattle.records.specs.Numbers.{u16At};
-ghost use Rattle.sheet.specs.Layout.{groundNumber};
 ghost use Rattle.report.specs.Listing.{decimal, labelled, headLine, entryText, entryOf, rowOf, listingOf};
 ghost use Rattle.report.specs.Promises.{Put, Filled};
-
-// Document 01's number of a ground.
-pub fn ground_number(ground: Refusal) -> u8
-    ensures { λ r. ⌜ r ≡ groundNumber ground ⌝ }
-{
-    match ground {
-        Refusal::Truncated => 1,
-        Refusal::Misplaced => 2,
-        Refusal::BadHead => 3,
-        Refusal::BadMonitor => 4,
-        Refusal::SeventhMonitor => 5,
-        Refusal::LongHorizon => 6,
-        Refusal::TooManyStates => 7,
-        Refusal::Unrealizable => 8,
-        Refusal::ShortResult => 9,
-        Refusal::ShortWork => 10,
-    }
-}
 
 // One byte.
 pub fn put_byte(text: &mut [u8], at: usize, byte: u8) -> usize

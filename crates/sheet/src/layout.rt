@@ -1,7 +1,7 @@
 // What a reader knows of a sheet: its numbers, and where the monitors lie in its bytes.
 ghost use mathlib.Core.Path.{_≡_};
 ghost use Prim.Native.Nat.{_<_};
-ghost use Rattle.sheet.specs.Layout.{noMonitor, blank, withMonitor, accepted, refused};
+ghost use Rattle.sheet.specs.Layout.{noMonitor, blank, withMonitor, accepted, refused, groundNumber};
 
 // One monitor: its numbers, and where its accept bytes and its rows of next states begin.
 pub struct Monitor {
@@ -39,6 +39,26 @@ pub enum Refusal {
     Unrealizable,
     ShortResult,
     ShortWork,
+}
+
+impl Refusal {
+    // Document 01's number of the ground.
+    pub fn number(self) -> u8
+        ensures { λ r. ⌜ r ≡ groundNumber self ⌝ }
+    {
+        match self {
+            Refusal::Truncated => 1,
+            Refusal::Misplaced => 2,
+            Refusal::BadHead => 3,
+            Refusal::BadMonitor => 4,
+            Refusal::SeventhMonitor => 5,
+            Refusal::LongHorizon => 6,
+            Refusal::TooManyStates => 7,
+            Refusal::Unrealizable => 8,
+            Refusal::ShortResult => 9,
+            Refusal::ShortWork => 10,
+        }
+    }
 }
 
 pub enum Verdict {

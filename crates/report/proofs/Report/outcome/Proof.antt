@@ -32,8 +32,8 @@ list-requires c κs = search needs
 enum-known-made-2 : tie.Need-enum-known-made-2
 enum-known-made-2 c = search needs
 
-ground-number-requires : tie.Need-ground-number-requires
-ground-number-requires c κs = search needs
+number-requires : tie.Need-number-requires
+number-requires c κs = search needs
 
 refused-requires : tie.Need-refused-requires
 refused-requires c κs = search needs
@@ -50,7 +50,7 @@ same-length-2 c = search needs
 
 returns-3 : tie.Need-returns-3
 returns-3 c = let at = c .before .before in
-    outcome-refused _ _ (refusal at .made2 .given .1) (at .before .before .ground-number .ensures) (at .refused .ensures)
+    outcome-refused _ _ (refusal at .made2 .given .1) (at .before .before .number .ensures) (at .refused .ensures)
 
 pub outcome-spec : {M : Type 1} → statement M
 outcome-spec =
@@ -61,7 +61,7 @@ outcome-spec =
     slice-aggregate-list
     list-requires
     enum-known-made-2
-    ground-number-requires
+    number-requires
     refused-requires
     same-length
     returns-2
