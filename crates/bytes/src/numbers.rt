@@ -2,7 +2,6 @@
 use board::answers::Change;
 use board::answers::Load;
 use board::answers::Step;
-use sheet::layout::Refusal;
 use supervisor::make::Made;
 ghost use mathlib.Core.Path.{_≡_};
 ghost use Prim.Native.Nat.{_≤_};
@@ -11,7 +10,6 @@ ghost use lib.Seq.{sets};
 ghost use Rattle.board.specs.Board.{changeNumber};
 ghost use Rattle.board.specs.Load.{loadNumber};
 ghost use Rattle.board.specs.Step.{stepNumber};
-ghost use Rattle.sheet.specs.Layout.{groundNumber};
 ghost use Rattle.supervisor.specs.Making.{madeNumber, madeLength, madeStates};
 ghost use Rattle.bytes.specs.Promises.{stepAnswer, figuresOf};
 

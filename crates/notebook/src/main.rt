@@ -5,7 +5,6 @@ mod makers;
 use makers::counters_guard;
 use makers::counters_supervisor;
 use supervisor::make::Made;
-ghost use mathlib.Core.Path.{_≡_};
 ghost use Prim.Native.Nat.{_≤_};
 
 // The answer of a maker: the states of its table, or the number of the refusal.
