@@ -4,11 +4,13 @@ use mathlib.Core.Path.{_≡_}
 use mathlib.Core.Bool.{true}
 use mathlib.Core.List.{List}
 use Prim.Native.Nat.{ℕ, _≤_}
+use native.Mathlib.Omega.{arith}
 use lib.ListN.{length}
 use borrow.Author.Tests.{leb-true}
 use Rattle.records.specs.Tests.{and-left, and-right}
+use Rattle.supervisor.specs.Promises.{tuplesLength, cellsLength, droppedLength}
 use Rattle.plan.specs.Planned.{Room}
-use Rattle.guard.specs.Promises.{Work, workOk}
+use Rattle.guard.specs.Promises.{gainsLength, bonusesLength, valuesLength, choicesLength, orderLength, Work, workOk}
 
 -- the lengths that were lent
 abbrev pub lent : ℕ → ℕ → ℕ → ℕ → ℕ → ℕ → ℕ → ℕ → ℕ → ℕ → Work
@@ -26,22 +28,52 @@ lent tuples cells dropped gains bonuses values next choices order numbers =
       numbers = numbers;
     }
 
--- slices of these lengths are long enough for every sheet
+-- each is long enough
+record Long (w : Work) : Type 0 where
+  tuples : tuplesLength ≤ w .tuples
+  cells : cellsLength ≤ w .cells
+  dropped : droppedLength ≤ w .dropped
+  gains : gainsLength ≤ w .gains
+  bonuses : bonusesLength ≤ w .bonuses
+  values : valuesLength ≤ w .values
+  next : valuesLength ≤ w .next
+  choices : choicesLength ≤ w .choices
+  order : orderLength ≤ w .order
+  numbers : orderLength ≤ w .numbers
+
+work-long : (w : Work) → workOk w ≡ true → Long w
+unfolding workOk
+work-long w e =
+    record {
+      tuples = leb-true _ _ (and-left _ _ e);
+      cells = leb-true _ _ (search (and-left, and-right) depth 12);
+      dropped = leb-true _ _ (search (and-left, and-right) depth 12);
+      gains = leb-true _ _ (search (and-left, and-right) depth 12);
+      bonuses = leb-true _ _ (search (and-left, and-right) depth 12);
+      values = leb-true _ _ (search (and-left, and-right) depth 12);
+      next = leb-true _ _ (search (and-left, and-right) depth 12);
+      choices = leb-true _ _ (search (and-left, and-right) depth 12);
+      order = leb-true _ _ (search (and-left, and-right) depth 12);
+      numbers = leb-true _ _ (search (and-left, and-right) depth 12);
+    }
+
+-- so the slices lent are long enough for every sheet
 pub work-room : (tuples cells dropped gains bonuses values next choices order numbers : List ℕ)
     → workOk (lent (length tuples) (length cells) (length dropped) (length gains) (length bonuses) (length values) (length next)
     (length choices) (length order) (length numbers)) ≡ true
     → Room tuples cells dropped gains bonuses values next choices order numbers
-unfolding workOk
 work-room tuples cells dropped gains bonuses values next choices order numbers e =
+    let l = work-long (lent (length tuples) (length cells) (length dropped) (length gains) (length bonuses) (length values) (length next)
+    (length choices) (length order) (length numbers)) e in
     record {
-      tuples-long = leb-true _ _ (and-left _ _ e);
-      cells-long = leb-true _ _ (search (and-left, and-right) depth 12);
-      dropped-long = leb-true _ _ (search (and-left, and-right) depth 12);
-      gains-long = leb-true _ _ (search (and-left, and-right) depth 12);
-      bonuses-long = leb-true _ _ (search (and-left, and-right) depth 12);
-      values-long = leb-true _ _ (search (and-left, and-right) depth 12);
-      next-long = leb-true _ _ (search (and-left, and-right) depth 12);
-      choices-long = leb-true _ _ (search (and-left, and-right) depth 12);
-      order-long = leb-true _ _ (search (and-left, and-right) depth 12);
-      numbers-long = leb-true _ _ (search (and-left, and-right) depth 12);
+      tuples-long = omega (arith, l .tuples);
+      cells-long = omega (arith, l .cells);
+      dropped-long = omega (arith, l .dropped);
+      gains-long = omega (arith, l .gains);
+      bonuses-long = omega (arith, l .bonuses);
+      values-long = omega (arith, l .values);
+      next-long = omega (arith, l .next);
+      choices-long = omega (arith, l .choices);
+      order-long = omega (arith, l .order);
+      numbers-long = omega (arith, l .numbers);
     }

@@ -33,10 +33,10 @@ use Rattle.supervisor.specs.Entries.{sheet-steps, some-letter}
 use Rattle.values.specs.Order.{rank}
 use Rattle.values.specs.Values.{Game, mayGive, nextOf, earns, scoreOf, worth, valueRow, choiceOf, choices}
 use Rattle.values.specs.Guard.{chosen, follows, guardStates, guardNumber}
+use Rattle.values.specs.Choices.{chosen-is}
 use Rattle.plan.specs.Table as table
 use Rattle.plan.specs.Table.{gameOf, valuesOf, choicesOf, guardOf, guardCount, outputOf}
 use Rattle.plan.specs.Playing.{Inside, may-is}
-use Rattle.plan.specs.Best.{chosen-at}
 use Rattle.plan.specs.Reaching.{chosen-leads, follows-inside, met-inside, guard-inside}
 
 -- ---- numbering: only the steps of the states that are met count
@@ -208,11 +208,11 @@ module _ (d : Decoded) (fits : stateCount d ≤ maxStates) (start : isIn (droppe
           (choicesBy (held (gameOf d) cells dropped gains bonuses) (stateCount d) (d .literals) h memory others) k i
       unfolding choicesOf gameOf
       same-chosen k i hk hi =
-          chosen-at (gameOf d) (stateCount d) (d .literals) (valuesOf d h) (inputsOf d ^ h) (zeros (stateCount d * inputsOf d))
+          chosen-is (gameOf d) (d .literals) (valuesOf d h) (inputsOf d ^ h) (stateCount d) (zeros (stateCount d * inputsOf d))
           (omega (arith, length-replicate {A = ℕ} (stateCount d * inputsOf d) 0)) k i hk hi
           ∙ choice-agree (gameOf d) (stateCount d) game-steps cells dropped gains bonuses holds (valuesOf d h) _ same-values
           (inputsOf d ^ h) (d .literals) k i hk hi
-          ∙ sym (chosen-at (held (gameOf d) cells dropped gains bonuses) (stateCount d) (d .literals) _ (inputsOf d ^ h) others wide
+          ∙ sym (chosen-is (held (gameOf d) cells dropped gains bonuses) (d .literals) _ (inputsOf d ^ h) (stateCount d) others wide
           k i hk hi)
 
       same-follows : (k i : ℕ) → Inside d k → i < inputsOf d

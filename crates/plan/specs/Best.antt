@@ -5,7 +5,6 @@ use mathlib.Core.Bool.{true}
 use mathlib.Core.List.{List}
 use Prim.Native.Nat.{ℕ, zero, suc, _+_, _*_, _^_, _≤_, _<_}
 use native.Mathlib.Omega.{arith}
-use lib.Arith.{digits-lt, digits-div, digits-mod}
 use lib.ListN.{length, getD, length-replicate}
 use Rattle.records.specs.Limits.{maxStates}
 use Rattle.records.specs.Bounded.{sum-cong, top-cong}
@@ -21,20 +20,11 @@ use Rattle.rounds.specs.Rounds.{isIn}
 use Rattle.values.specs.Order.{rank}
 use Rattle.values.specs.Values.{Game, mayGive, nextOf, earns, scoreOf, worth, valueRow, choiceOf, choices}
 use Rattle.values.specs.Guard.{chosen}
+use Rattle.values.specs.Choices.{chosen-is}
 use Rattle.plan.specs.Table.{gameOf, valuesOf, choicesOf}
 use Rattle.plan.specs.Playing.{mayAt, bestAt, scoreAt, choiceAt, Inside, next-inside, earns-is, plays}
 
 -- ---- over any table
-
--- the choice of a state and an input stands in its place
-pub chosen-at : (g : Game) (n : ℕ) (literals values : List ℕ) (factor : ℕ) (memory : List ℕ) → n * g .inputs ≤ length memory
-    → (k i : ℕ) → k < n → i < g .inputs
-    → chosen g (choices g n literals values factor memory) k i ≡ choiceOf g literals values factor k i
-unfolding chosen choices
-chosen-at g n literals values factor memory room k i state input =
-    let low : k * g .inputs + i < n * g .inputs = digits-lt state input in
-    getD-put-front memory (n * g .inputs) _ (k * g .inputs + i) 0 low (omega arith)
-    ∙ rw (digits-div k input, digits-mod k input)
 
 -- among n states, some that are in and that no output that may be given leaves
 module _
@@ -60,7 +50,7 @@ module _
         ≡ choice ℕ (g .inputs) (g .outputs) (nextOf g) (mayGive g) (earns g) (rank literals) p k i
     unfolding choiceOf choice scoreOf score
     chosen-choice literals values memory room p worths k i h hi =
-        chosen-at g n literals values (g .inputs ^ p) memory room k i (low k h) hi
+        chosen-is g literals values (g .inputs ^ p) n memory room k i (low k h) hi
         ∙ choose-cong _ _ _ _ (rank literals) (g .outputs) (λ o ho. refl) (λ o ho t.
         ap (λ (x : ℕ). earns g k i o * g .inputs ^ p + x) (worths (nextOf g k i o) (inside k i o h hi ho t)))
 

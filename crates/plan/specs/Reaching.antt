@@ -1,20 +1,18 @@
 -- The states that the guard meets: how many, that no round drops them, and where its entries lead.
 -- Assumes nothing.
-use mathlib.Core.Path.{_≡_, refl, sym, _∙_, subst}
+use mathlib.Core.Path.{_≡_, refl, sym, _∙_}
 use mathlib.Core.Bool.{true}
 use mathlib.Core.List.{List}
 use Prim.Native.Nat.{ℕ, _≤_, _<_}
 use lib.Dec.{eqb}
 use lib.ListN.{getD}
-use borrow.Author.Tests.{eqb-true, eq-eqb}
 use Rattle.records.specs.Limits.{maxStates}
-use Rattle.records.specs.Lists.{tab, length-tab, getD-tab}
 use Rattle.sheet.specs.Decoded.{Decoded}
 use Rattle.product.specs.Step.{inputsOf, outputsOf, advance, unbroken, firstTuple}
 use Rattle.product.specs.States.{Reached}
 use Rattle.product.specs.Numbered.{stateCount, stateOf}
 use Rattle.product.specs.NumberedLaws.{some-state, state-reached}
-use Rattle.game.specs.Numbering.{Reach, here, there, Has, has-at, find-at, explore-start, explore-reached, explore-all, explore-least}
+use Rattle.game.specs.Numbering.{Reach, here, there, Has, find-at, explore-start, explore-reached, explore-all}
 use Rattle.game.specs.Rounds.{Good, live}
 use Rattle.game.specs.Reachable.{reachable-closed}
 use Rattle.game.specs.Choice.{Leads, choose-leads}
@@ -25,6 +23,7 @@ use Rattle.supervisor.specs.Entries.{in-kept, settled-quiet}
 use Rattle.values.specs.Order.{rank}
 use Rattle.values.specs.Values.{mayGive}
 use Rattle.values.specs.Guard.{chosen, follows, guardStates, guardNumber}
+use Rattle.values.specs.Numbered.{eqb-sound, eqb-self, stage-fits}
 use Rattle.plan.specs.Table.{gameOf, choicesOf, guardOf, guardCount, outputOf, nextOf}
 use Rattle.plan.specs.Playing.{mayAt, scoreAt, choiceAt, Inside, may-is, next-lands, next-inside}
 use Rattle.plan.specs.Best.{choice-is}
@@ -32,19 +31,6 @@ use Rattle.plan.specs.Best.{choice-is}
 -- a reachable tuple that is kept after as many rounds as there are states
 abbrev pub Winning : Decoded → List ℕ → Type 0
 Winning d = Good (List ℕ) (inputsOf d) (outputsOf d) (advance d) (unbroken d) (Reached d) (stateCount d)
-
--- equal numbers pass the test of equality, and no others do
-eqb-sound : (a b : ℕ) → eqb a b ≡ true → a ≡ b
-eqb-sound a b = eqb-true a b
-
-eqb-self : (a : ℕ) → eqb a a ≡ true
-eqb-self a = eq-eqb a a refl
-
--- every number below n stands in the list of them
-listed : (n k : ℕ) → k < n → Has ℕ eqb k (tab n (λ j. j))
-listed n k h =
-    subst (λ (x : ℕ). Has ℕ eqb x (tab n (λ j. j))) (getD-tab n (λ j. j) k 0 h)
-    (has-at ℕ eqb eqb-sound eqb-self (tab n (λ j. j)) k 0 (rw length-tab h))
 
 module _ (d : Decoded) (fits : stateCount d ≤ maxStates) where
   -- the tuple of a state that is in is winning
@@ -116,10 +102,7 @@ module _ (d : Decoded) (fits : stateCount d ≤ maxStates) where
       -- so there are no more than product states
       pub guard-fits : guardCount d h ≤ stateCount d
       unfolding guardCount guardOf guardStates gameOf
-      guard-fits =
-          rw (length-tab (stateCount d) (λ j. j)) at
-          (explore-least ℕ eqb (inputsOf d) (λ k i. true) (λ k i. follows (gameOf d) (choicesOf d h) k i) 0 eqb-sound eqb-self
-          (stateCount d) (tab (stateCount d) (λ j. j)) (λ k r. listed (stateCount d) k (met-inside k r .low)))
+      guard-fits = stage-fits (gameOf d) (choicesOf d h) (stateCount d) (λ k m. met-inside k m .low) (stateCount d)
 
       module _ (j i : ℕ) (hj : j < guardCount d h) (hi : i < inputsOf d) where
         -- where an entry leads has a number
