@@ -14,37 +14,37 @@ abbrev entered : tie.After-make → tie.After-shared-slice-known
 entered c = c .before .before .before .before .before .before .before .before .before .before .before .before .before
 
 slice-aggregate-make : tie.Need-slice-aggregate-make
-slice-aggregate-make c = search needs
+slice-aggregate-make c = refl
 
 slice-aggregate-make-2 : tie.Need-slice-aggregate-make-2
-slice-aggregate-make-2 c = search needs
+slice-aggregate-make-2 c = refl
 
 slice-aggregate-make-3 : tie.Need-slice-aggregate-make-3
-slice-aggregate-make-3 c = search needs
+slice-aggregate-make-3 c = refl
 
 slice-aggregate-make-4 : tie.Need-slice-aggregate-make-4
-slice-aggregate-make-4 c = search needs
+slice-aggregate-make-4 c = refl
 
 slice-aggregate-make-5 : tie.Need-slice-aggregate-make-5
-slice-aggregate-make-5 c = search needs
+slice-aggregate-make-5 c = refl
 
 slice-aggregate-make-6 : tie.Need-slice-aggregate-make-6
-slice-aggregate-make-6 c = search needs
+slice-aggregate-make-6 c = refl
 
 slice-aggregate-make-7 : tie.Need-slice-aggregate-make-7
-slice-aggregate-make-7 c = search needs
+slice-aggregate-make-7 c = refl
 
 slice-aggregate-make-8 : tie.Need-slice-aggregate-make-8
-slice-aggregate-make-8 c = search needs
+slice-aggregate-make-8 c = refl
 
 slice-aggregate-make-9 : tie.Need-slice-aggregate-make-9
-slice-aggregate-make-9 c = search needs
+slice-aggregate-make-9 c = refl
 
 slice-aggregate-make-10 : tie.Need-slice-aggregate-make-10
-slice-aggregate-make-10 c = search needs
+slice-aggregate-make-10 c = refl
 
 slice-aggregate-make-11 : tie.Need-slice-aggregate-make-11
-slice-aggregate-make-11 c = search needs
+slice-aggregate-make-11 c = refl
 
 make-requires : tie.Need-make-requires
 make-requires c κs = search needs

@@ -1,4 +1,5 @@
 -- `report::Report::refused`: 9, then the line. Assumes nothing.
+use mathlib.Core.Path.{refl}
 use Prim.Native.Nat.{_+_, _≤_}
 use native.Mathlib.Omega.{arith}
 use lib.ListN.{length, length-append}
@@ -23,7 +24,7 @@ returns : tie.Need-returns
 returns c = writes-short (room-short _ _ (omega arith))
 
 slice-aggregate-put-labelled : tie.Need-slice-aggregate-put-labelled
-slice-aggregate-put-labelled c = search needs
+slice-aggregate-put-labelled c = refl
 
 put-labelled-requires : tie.Need-put-labelled-requires
 unfolding refusedText

@@ -1,4 +1,5 @@
 -- `report::Report::too_long`: 9, then the line. Assumes nothing.
+use mathlib.Core.Path.{refl}
 use native.Mathlib.Omega.{arith}
 use Rattle.report.specs.Laws.{writes-text, writes-short, room-short, room-enough, put-same}
 use borrow.Author.Needs.{needs}
@@ -9,7 +10,7 @@ returns : tie.Need-returns
 returns c = writes-short (room-short _ _ (omega arith))
 
 slice-aggregate-put-word : tie.Need-slice-aggregate-put-word
-slice-aggregate-put-word c = search needs
+slice-aggregate-put-word c = refl
 
 put-word-requires : tie.Need-put-word-requires
 put-word-requires c κs = omega arith
