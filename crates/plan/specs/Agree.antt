@@ -2,15 +2,15 @@
 -- whatever else it holds.
 -- Assumes nothing.
 use mathlib.Core.Path.{_≡_, refl, sym, ap, ap₂, _∙_, subst, subst₃}
-use mathlib.Core.Bool.{Bool, true, cond, not}
+use mathlib.Core.Bool.{true, cond, not}
 use mathlib.Core.List.{List, [], _∷_, _++_}
 use Prim.Native.Nat.{ℕ, zero, suc, _+_, _*_, _^_, _/_, _%_, _≤_, _<_}
 use native.Mathlib.Omega.{arith}
 use native.Mathlib.Nat.{mod-lt, div-lt-iff-lt-mul, div-add-mod'}
-use lib.Dec.{ltb, eqb}
+use lib.Dec.{eqb}
 use lib.ListN.{length, getD, length-replicate}
-use borrow.Author.Tests.{ltb-true, eqb-false, not-true}
-use Rattle.records.specs.Tests.{by-test, and-left}
+use borrow.Author.Tests.{eqb-false, not-true}
+use Rattle.records.specs.Tests.{and-left}
 use Rattle.records.specs.Limits.{maxStates}
 use Rattle.records.specs.Bounded.{sum-cong, top-cong}
 use Rattle.records.specs.Lists.{cat-ext, getD-put-front}
@@ -21,7 +21,7 @@ use Rattle.sheet.specs.Decoded.{Decoded}
 use Rattle.product.specs.Step.{inputsOf, outputsOf}
 use Rattle.product.specs.Numbered.{stateCount}
 use Rattle.product.specs.NumberedLaws.{some-state}
-use Rattle.game.specs.Numbering.{Reach, here, there, met, meet, visit, explore, explore-reached, find}
+use Rattle.game.specs.Numbering.{Reach, here, there, explore-cong, find}
 use Rattle.game.specs.Reachable.{letter-low}
 use Rattle.game.specs.Choice.{choose-cong}
 use Rattle.records.specs.Cells.{isBroken}
@@ -38,27 +38,6 @@ use Rattle.plan.specs.Table as table
 use Rattle.plan.specs.Table.{gameOf, valuesOf, choicesOf, guardOf, guardCount, outputOf}
 use Rattle.plan.specs.Playing.{Inside, may-is}
 use Rattle.plan.specs.Reaching.{chosen-leads, follows-inside, met-inside, guard-inside}
-
--- ---- numbering: only the steps of the states that are met count
-
-module _ (S : Type 0) (same : S → S → Bool) (M : ℕ) (ok : S → ℕ → Bool) (next other : S → ℕ → S) (start : S) where
-  met-cong : (L : List S) (s : S) (n : ℕ) → ((l : ℕ) → l < n → next s l ≡ other s l)
-      → met S same M ok next start L s n ≡ met S same M ok other start L s n
-  unfolding met meet
-  met-cong L s zero e = refl
-  met-cong L s (suc n) e = rw (met-cong L s n (λ l h. e l (omega arith)), e n (omega arith))
-
-  -- so the list of states is the same
-  pub explore-cong : ((s : S) → Reach S M ok next start s → (l : ℕ) → l < M → next s l ≡ other s l)
-      → (k : ℕ) → explore S same M ok next start k ≡ explore S same M ok other start k
-  unfolding explore visit
-  explore-cong e zero = refl
-  explore-cong e (suc k) =
-      let L : List S = explore S same M ok next start k in
-      rw (← explore-cong e k)
-      (by-test (ltb k (length L))
-      (λ t. rw t (met-cong L (getD L k start) M (e (getD L k start) (explore-reached S same M ok next start k k (ltb-true _ _ t)))))
-      (λ t. rw t))
 
 -- ---- a table of steps in other memory
 
