@@ -4,21 +4,20 @@ use mathlib.Core.Path.{_≡_, refl, sym, ap, ap₂, _∙_}
 use mathlib.Core.Bool.{Bool, true, false, cond}
 use mathlib.Core.List.{List}
 use Prim.Native.Nat.{ℕ, zero, suc, _+_, _*_, _^_, _≤_, _<_}
-use native.Mathlib.Nat.{mul-le-mul, zero-add}
+use native.Mathlib.Nat.{mul-le-mul}
 use native.Mathlib.Omega.{arith}
-use lib.Dec.{ltb, leb, eqb}
+use lib.Dec.{ltb, eqb}
 use lib.ListN.{length, take}
 use lib.Pow.{pow-mono}
 use lib.Seq.{sets, length-sets, take-append-seam}
-use borrow.Author.Tests.{ltb-false, le-leb, lt-leb, le-ltb, eqb-true, leb-true, ne-eqb}
+use borrow.Author.Tests.{ltb-false, le-leb, lt-leb}
 use Rattle.records.specs.Tests.{by-test}
 use Rattle.records.specs.Limits.{maxStates}
 use Rattle.records.specs.Lists.{sets-front}
 use Rattle.records.specs.Numbers.{Bytes}
 use Rattle.records.specs.Layout.{rowLength, tableLength}
 use Rattle.sheet.specs.Decoded.{Decoded, SheetOk, inputLines}
-use Rattle.sheet.specs.Layout.{groundNumber, verdictNumber}
-use Rattle.sheet.specs.Reader.{reading}
+use Rattle.sheet.specs.Layout.{groundNumber}
 use Rattle.sheet.specs.Refusals.{sheetNumber, firstNumber}
 use Rattle.sheet.specs.Laws.{reads}
 use Rattle.sheet.specs.declared.layout.Refusal.{Refusal}
@@ -26,12 +25,12 @@ use Rattle.sheet.specs.declared.layout.Refusal.the-variants as ground
 use Rattle.product.specs.Numbered.{stateCount}
 use Rattle.rounds.specs.Rounds.{isIn}
 use Rattle.supervisor.specs.Table.{droppedOf}
-use Rattle.supervisor.specs.Making.{sheetOf, madeNumber, madeLength, tableNumber, makingNumber, Answers}
+use Rattle.supervisor.specs.Making.{sheetOf, tableNumber, makingNumber, Answers}
 use Rattle.supervisor.specs.Promises.{tuplesLength, cellsLength, droppedLength}
 use Rattle.supervisor.specs.declared.make.Made.{Made}
 use Rattle.supervisor.specs.declared.make.Made.the-variants.{Table, Refused}
 use Rattle.tables.specs.Loadable.{loadable}
-use Rattle.guard.specs.Table.{guardTableOf}
+use Rattle.guard.specs.Table.{outputOf, nextOf, guardOver, guardTableOf}
 use Rattle.guard.specs.Promises.{
   gainsLength,
   bonusesLength,
@@ -47,9 +46,9 @@ use Rattle.guard.specs.Lent.{Long}
 use Rattle.plan.specs.Reaching.{guard-fits}
 use Rattle.guard.specs.Running.{table-loads, sheet-horizon}
 use Rattle.guard.specs.Written.{length-guard}
-use Rattle.report.specs.Listing.{listingOf, refusedText, tooLongText}
-use Rattle.report.specs.Promises.{Put, Writes, textLength, lineLength, roomNumber, listNumber, outcomeNumber, outcomeText, listedLength}
-use Rattle.report.specs.Laws.{room-enough, list-number, listing-most, refused-most}
+use Rattle.report.specs.Listing.{listing, listingOf, tooLongText}
+use Rattle.report.specs.Promises.{Writes, textLength, lineLength, outcomeNumber, outcomeText, listedLength}
+use Rattle.report.specs.Laws.{room-enough, list-number, listing-made}
 use Rattle.report.specs.declared.Listed.{Listed}
 use Rattle.listing.specs.Printed.{sheetMost, tableMost, solveNumber, sheetGround, guardText, printed, Prints}
 
@@ -92,6 +91,15 @@ module _ (s : List ℕ) (bytes : Bytes s) (none : sheetNumber s ≡ 0) where
         let few : guardStates d ≤ 256 = omega (arith, guard-fits d fits (d .horizon) start) in
         let wide : 4 + 2 * 2 ^ inputLines d ≤ 36 = omega (arith, pow-mono {i = inputLines d} {j = 4} (ok .head .inputs)) in
         omega (arith, length-guard d, mul-le-mul few wide)
+
+-- ---- the listing of a sheet's guard table is that of the model's entries
+
+pub listing-entries : (d : Decoded)
+    → listingOf (guardTableOf d)
+    ≡ listing (guardStates d) (inputLines d) (d .outputs) (d .horizon) (outputOf d (d .horizon)) (nextOf d (d .horizon))
+unfolding guardTableOf guardOver
+listing-entries d =
+    listing-made (d .mode) (inputLines d) (d .outputs) (d .horizon) (guardStates d) (outputOf d (d .horizon)) (nextOf d (d .horizon))
 
 -- ---- the number of the maker's answer
 

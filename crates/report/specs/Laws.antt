@@ -1,45 +1,23 @@
--- Laws of the listing: a number's digits, text put piece by piece, how long a listing is, and the listing of a made table.
+-- Laws of the answers, of how long a listing is, and of the listing of a made table.
 -- Assumes nothing.
 use mathlib.Core.Path.{_≡_, refl, sym, ap, _∙_}
-use mathlib.Core.Bool.{Bool, true, false}
-use mathlib.Core.List.{List, [], _∷_, _++_}
-use Prim.Native.Nat.{ℕ, zero, suc, _+_, _*_, _/_, _%_, _^_, _≤_, _<_}
+use mathlib.Core.Bool.{true, false}
+use mathlib.Core.List.{List, _∷_, _++_}
+use Prim.Native.Nat.{ℕ, zero, suc, _+_, _*_, _^_, _≤_, _<_}
 use native.Mathlib.Nat.{suc-mul, zero-add}
-use native.Mathlib.Decide.{decLt}
 use native.Mathlib.Omega.{arith}
-use lib.Dec.{ltb, leb}
-use lib.ListN.{length, getD, set, take, length-append}
+use lib.ListN.{length, getD, take, length-append}
 use lib.Pow.{pow-mono}
-use lib.Seq.{sets, length-sets}
-use borrow.Author.Tests.{lt-ltb, le-ltb, le-leb, lt-leb, ltb-true}
+use borrow.Author.Tests.{le-leb, lt-leb, ltb-true}
 use Rattle.records.specs.Tests.{and-left, and-right}
-use Rattle.records.specs.Lists.{tab, length-tab, tab-self, cat, cat-none, cat-more, cat-ext, cat-at, sets-append, sets-more}
+use Rattle.records.specs.Lists.{cat, cat-ext}
 use Rattle.records.specs.Numbers.{u16At}
 use Rattle.records.specs.Limits.{lines-facts, horizon-facts}
 use Rattle.records.specs.Layout.{entryAt, guardTable}
 use Rattle.records.specs.GuardTable.{table-head, entry-output, entry-next}
 use Rattle.tables.specs.Loadable.{loadable, entryOk}
 use Rattle.tables.specs.Facts.{loadable-head, loadable-entry}
-use Rattle.report.specs.Listing.{
-  decimalFrom,
-  decimal,
-  statesWord,
-  inputsWord,
-  outputsWord,
-  horizonWord,
-  lineEnd,
-  labelled,
-  headLine,
-  entryText,
-  rowText,
-  listing,
-  refusedText,
-  outputIn,
-  nextIn,
-  entryOf,
-  rowOf,
-  listingOf,
-}
+use Rattle.report.specs.Listing.{decimal, lineEnd, labelled, headLine, entryText, rowText, listing, refusedText, outputIn, nextIn, listingOf}
 use Rattle.sheet.specs.Layout.{groundNumber}
 use Rattle.sheet.specs.declared.layout.Refusal.{Refusal}
 use Rattle.supervisor.specs.declared.make.Made.{Made}
@@ -57,162 +35,8 @@ use Rattle.report.specs.Promises.{
 }
 use Rattle.report.specs.declared.Listed.{Listed}
 use Rattle.report.specs.declared.Listed.the-variants.{Text, NoTable, ShortText}
-
--- ---- digits
-
-from-digit : (f n : ℕ) → n < 10 → decimalFrom (suc f) n ≡ (48 + n) ∷ []
-unfolding decimalFrom
-from-digit f n h =
-    ap (λ (b : Bool). elim b [ true ↦ (48 + n) ∷ [] | false ↦ decimalFrom f (n / 10) ++ ((48 + (n % 10)) ∷ []) ]) (lt-ltb n 10 h)
-
-from-more : (f n : ℕ) → 10 ≤ n → decimalFrom (suc f) n ≡ decimalFrom f (n / 10) ++ ((48 + (n % 10)) ∷ [])
-unfolding decimalFrom
-from-more f n h =
-    ap (λ (b : Bool). elim b [ true ↦ (48 + n) ∷ [] | false ↦ decimalFrom f (n / 10) ++ ((48 + (n % 10)) ∷ []) ]) (le-ltb n 10 h)
-
--- fuel above the number is enough
-from-any : (f g n : ℕ) → n < f → n < g → decimalFrom f n ≡ decimalFrom g n
-from-any zero g n h k = absurd (omega arith)
-from-any (suc f) zero n h k = absurd (omega arith)
-from-any (suc f) (suc g) n h k =
-    elim (decLt n 10) [
-      | yes l ↦ from-digit f n l ∙ sym (from-digit g n l)
-      | no l ↦
-          from-more f n (omega arith)
-          ∙ ap (λ (s : List ℕ). s ++ ((48 + (n % 10)) ∷ [])) (from-any f g (n / 10) (omega arith) (omega arith))
-          ∙ sym (from-more g n (omega arith))
-    ]
-
-pub decimal-digit : (n : ℕ) → n < 10 → decimal n ≡ (48 + n) ∷ []
-unfolding decimal
-decimal-digit n h = from-digit n n h
-
-pub decimal-more : (n : ℕ) → 10 ≤ n → decimal n ≡ decimal (n / 10) ++ ((48 + (n % 10)) ∷ [])
-unfolding decimal
-decimal-more n h =
-    from-more n n h
-    ∙ ap (λ (s : List ℕ). s ++ ((48 + (n % 10)) ∷ [])) (from-any n (suc (n / 10)) (n / 10) (omega arith) (omega arith))
-
-pub decimal-two : (n : ℕ) → 10 ≤ n → n < 100 → decimal n ≡ (48 + n / 10) ∷ (48 + (n % 10)) ∷ []
-decimal-two n h l = rw (decimal-more n h, decimal-digit (n / 10) (omega arith))
-
-pub decimal-three : (n : ℕ) → 100 ≤ n → n < 1000
-    → decimal n ≡ (48 + n / 100) ∷ (48 + ((n / 10) % 10)) ∷ (48 + (n % 10)) ∷ []
-decimal-three n h l =
-    let hundreds : n / 10 / 10 ≡ n / 100 = omega arith in
-    rw (decimal-more n (omega arith), decimal-two (n / 10) (omega arith) (omega arith), hundreds)
-
--- the same, as a place that found the digits one by one has them
-pub digits-one : (n : ℕ) → n < 10 → {a : ℕ} → a ≡ 48 + n → a ∷ [] ≡ decimal n
-digits-one n h e = rw (decimal-digit n h, e)
-
-pub digits-two : (n : ℕ) → 10 ≤ n → n < 100 → {a b : ℕ} → a ≡ 48 + n / 10 → b ≡ 48 + (n % 10) → a ∷ b ∷ [] ≡ decimal n
-digits-two n h l e f = rw (decimal-two n h l, e, f)
-
-pub digits-three : (n : ℕ) → 100 ≤ n → n < 1000 → {a b c : ℕ} → a ≡ 48 + n / 100 → b ≡ 48 + ((n / 10) % 10) → c ≡ 48 + (n % 10)
-    → a ∷ b ∷ c ∷ [] ≡ decimal n
-digits-three n h l e f g = rw (decimal-three n h l, e, f, g)
-
--- how many there are
-pub one-digit : (n : ℕ) → n < 10 → length (decimal n) ≡ 1
-one-digit n h = rw (decimal-digit n h)
-
-pub two-digits : (n : ℕ) → 10 ≤ n → n < 100 → length (decimal n) ≡ 2
-two-digits n h l = rw (decimal-two n h l)
-
-pub three-digits : (n : ℕ) → 100 ≤ n → n < 1000 → length (decimal n) ≡ 3
-three-digits n h l = rw (decimal-three n h l)
-
-two-most : (n : ℕ) → n < 100 → length (decimal n) ≤ 2
-two-most n h = elim (decLt n 10) [ yes l ↦ omega (arith, one-digit n l) | no l ↦ omega (arith, two-digits n (omega arith) h) ]
-
-pub three-most : (n : ℕ) → n < 1000 → length (decimal n) ≤ 3
-three-most n h = elim (decLt n 100) [ yes l ↦ omega (arith, two-most n l) | no l ↦ omega (arith, three-digits n (omega arith) h) ]
-
--- ---- pieces: text put after text
-
-pub put-byte : (before : List ℕ) (at x : ℕ) → Put before at (x ∷ []) (at + 1) (set before at x)
-put-byte before at x = record { place-is = refl; bytes = refl }
-
-pub put-same : {before : List ℕ} {at : ℕ} {words : List ℕ} {place : ℕ} {after : List ℕ} → Put before at words place after
-    → length after ≡ length before
-put-same {before} {at} {words} p = ap length (p .bytes) ∙ length-sets before at words
-
-pub put-then : {before : List ℕ} {at : ℕ} {xs ys : List ℕ} {place end : ℕ} {now after : List ℕ}
-    → Put before at xs place now → Put now place ys end after → Put before at (xs ++ ys) end after
-put-then {before} {at} {xs} {ys} {place} {end} {now} {after} p q =
-    record {
-      place-is = omega (arith, p .place-is, q .place-is, length-append xs ys);
-      bytes =
-          q .bytes
-          ∙ ap (λ (k : ℕ). sets now k ys) (p .place-is)
-          ∙ ap (λ (l : List ℕ). sets l (at + length xs) ys) (p .bytes)
-          ∙ sets-append before at xs ys;
-    }
-
--- where two pieces fit, the second does after the first
-pub fits-rest : {before : List ℕ} {at : ℕ} {xs : List ℕ} {place : ℕ} {now : List ℕ} → Put before at xs place now
-    → (ys : List ℕ) → at + length (xs ++ ys) ≤ length before → place + length ys ≤ length now
-fits-rest {before} {at} {xs} p ys h = omega (arith, put-same p, p .place-is, length-append xs ys)
-
-pub put-as : {before : List ℕ} {at : ℕ} {xs ys : List ℕ} {place : ℕ} {after : List ℕ} → Put before at xs place after → xs ≡ ys
-    → Put before at ys place after
-put-as p e = rw e at p
-
--- elements, as a loop puts them
-pub word-none : (before : List ℕ) (at : ℕ) (f : ℕ → ℕ) → Put before at (tab 0 f) (at + 0) before
-unfolding tab
-word-none before at f = record { place-is = refl; bytes = refl }
-
-pub word-more : (f : ℕ → ℕ) (i : ℕ) {before : List ℕ} {at place : ℕ} {now : List ℕ} → Put before at (tab i f) place now
-    → Put before at (tab (i + 1) f) (at + (i + 1)) (set now (at + i) (f i))
-word-more f i {before} {at} p =
-    record {
-      place-is = omega (arith, length-tab (i + 1) f);
-      bytes = ap (λ (l : List ℕ). set l (at + i) (f i)) (p .bytes) ∙ sets-more before at i f;
-    }
-
-pub word-all : (word : List ℕ) (i : ℕ) → i ≡ length word → {before : List ℕ} {at place : ℕ} {now : List ℕ}
-    → Put before at (tab i (λ j. getD word j 0)) place now → Put before at word place now
-word-all word i e p = put-as p (ap (λ (n : ℕ). tab n (λ j. getD word j 0)) e ∙ sym (tab-self 0 word))
-
--- blocks, as a loop puts them
-pub put-none : (before : List ℕ) (at : ℕ) (f : ℕ → List ℕ) → Put before at (cat 0 f) at before
-put-none before at f = rw cat-none (record { place-is = omega arith; bytes = refl })
-
-pub put-more : (f : ℕ → List ℕ) (k : ℕ) {before : List ℕ} {at place end : ℕ} {now after : List ℕ}
-    → Put before at (cat k f) place now → Put now place (f k) end after → Put before at (cat (k + 1) f) end after
-put-more f k p q = rw cat-more (put-then p q)
-
-pub put-all : (f : ℕ → List ℕ) (k n : ℕ) → k ≡ n → {before : List ℕ} {at place : ℕ} {now : List ℕ}
-    → Put before at (cat k f) place now → Put before at (cat n f) place now
-put-all f k n e p = put-as p (ap (λ (m : ℕ). cat m f) e)
-
--- where all fit, the next one does
-pub fits-next : (f : ℕ → List ℕ) (k n : ℕ) → k < n → {before : List ℕ} {at place : ℕ} {now : List ℕ}
-    → Put before at (cat k f) place now → at + length (cat n f) ≤ length before → place + length (f k) ≤ length now
-fits-next f k n h p room =
-    let r = cat-at n f k h in
-    omega (
-      arith,
-      put-same p,
-      p .place-is,
-      ap length (r .1),
-      length-append (cat k f) (f k ++ r .0),
-      length-append (f k) (r .0),
-    )
-
--- the entry that was found where the layout puts it
-pub entry-found : (t : List ℕ) (inputs k i : ℕ) {at : ℕ} → at ≡ entryAt inputs k i
-    → entryText (getD t at 0) (getD t (at + 1) 0) ≡ entryOf t inputs k i
-unfolding entryOf outputIn nextIn
-entry-found t inputs k i e = rw e
-
--- the listing of a table whose count was read: the first line, then the lines of the states
-pub listing-parts : (t : List ℕ) {count : ℕ} → count ≡ u16At t 8
-    → headLine count (getD t 5 0) (getD t 6 0) (getD t 7 0) ++ cat count (rowOf t (getD t 5 0)) ≡ listingOf t
-unfolding listingOf listing rowOf
-listing-parts t e = rw e
+use Rattle.report.specs.Digits.{one-digit, two-most, three-most}
+use Rattle.report.specs.Pieces.{put-same}
 
 -- ---- the answer
 

@@ -1,7 +1,6 @@
 -- `listing::print`: by the length of the sheet. Assumes nothing.
 use mathlib.Core.Path.{refl}
 use native.Mathlib.Omega.{arith}
-use denote.Ref.{now}
 use Rattle.report.specs.Laws.{room-enough}
 use Rattle.listing.specs.Laws.{writes-prints, prints-guard, prints-long}
 use borrow.Author.Needs.{needs}

@@ -1,16 +1,13 @@
 -- `report::text::put_entries`: the entries of the inputs before i are put. Assumes nothing.
-use mathlib.Core.Path.{_≡_, ap, _∙_}
-use mathlib.Core.List.{List}
-use Prim.Native.Nat.{ℕ, _+_, _-_, _^_, _≤_, _<_}
+use Prim.Native.Nat.{_+_, _-_, _^_, _≤_, _<_}
 use native.Mathlib.Omega.{arith}
 use lib.ListN.{length}
 use lib.Pow.{pow-mono}
 use Rattle.records.specs.Lists.{cat}
-use Rattle.records.specs.Layout.{tableLength}
 use Rattle.records.specs.GuardTable.{entry-inside}
 use Rattle.report.specs.Listing.{entryOf}
 use Rattle.report.specs.Promises.{Put}
-use Rattle.report.specs.Laws.{put-same, put-none, put-more, put-all, put-as, fits-next, entry-found}
+use Rattle.report.specs.Pieces.{put-same, put-none, put-more, put-all, put-as, fits-next, entry-found}
 use Rattle.report.proofs.text.put_entries.Statement.{statement}
 use Rattle.report.proofs.text.put_entries.Tie as tie
 

@@ -1,10 +1,10 @@
 -- `report::text::put_entry`: four pieces, one after the other. Assumes nothing.
-use mathlib.Core.List.{[], _∷_, _++_}
+use mathlib.Core.List.{_∷_, _++_}
 use Prim.Native.Nat.{_+_, _≤_}
 use native.Mathlib.Omega.{arith}
 use lib.ListN.{length, length-append}
 use Rattle.report.specs.Listing.{decimal, entryText}
-use Rattle.report.specs.Laws.{put-same, put-then, fits-rest}
+use Rattle.report.specs.Pieces.{put-same, put-then, fits-rest}
 use Rattle.report.proofs.text.put_entry.Statement.{statement}
 use Rattle.report.proofs.text.put_entry.Tie as tie
 

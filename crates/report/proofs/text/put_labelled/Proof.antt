@@ -2,7 +2,7 @@
 use native.Mathlib.Omega.{arith}
 use lib.ListN.{length-append}
 use Rattle.report.specs.Listing.{decimal, labelled}
-use Rattle.report.specs.Laws.{put-same, put-then, fits-rest}
+use Rattle.report.specs.Pieces.{put-same, put-then, fits-rest}
 use Rattle.report.proofs.text.put_labelled.Statement.{statement}
 use Rattle.report.proofs.text.put_labelled.Tie as tie
 

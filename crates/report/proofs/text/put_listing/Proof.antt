@@ -6,7 +6,7 @@ use native.Mathlib.Omega.{arith}
 use lib.ListN.{length, getD, length-append}
 use Rattle.records.specs.Lists.{cat}
 use Rattle.report.specs.Listing.{headLine, rowOf, listingOf}
-use Rattle.report.specs.Laws.{put-same, put-then, put-as, fits-rest, listing-parts}
+use Rattle.report.specs.Pieces.{put-same, put-then, put-as, fits-rest, listing-parts}
 use Rattle.report.proofs.text.put_listing.Statement.{statement}
 use Rattle.report.proofs.text.put_listing.Tie as tie
 

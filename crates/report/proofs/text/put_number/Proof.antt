@@ -1,16 +1,7 @@
 -- `report::text::put_number`: one, two or three digits. Assumes nothing.
 use native.Mathlib.Omega.{arith}
-use Rattle.report.specs.Laws.{
-  digits-one,
-  digits-two,
-  digits-three,
-  one-digit,
-  two-digits,
-  three-digits,
-  put-same,
-  put-then,
-  put-as,
-}
+use Rattle.report.specs.Digits.{digits-one, digits-two, digits-three, one-digit, two-digits, three-digits}
+use Rattle.report.specs.Pieces.{put-same, put-then, put-as}
 use Rattle.report.proofs.text.put_number.Statement.{statement}
 use Rattle.report.proofs.text.put_number.Tie as tie
 

@@ -1,11 +1,11 @@
 -- `report::text::put_row`: four pieces, one after the other. Assumes nothing.
-use mathlib.Core.List.{List, [], _∷_, _++_}
+use mathlib.Core.List.{List, _∷_, _++_}
 use Prim.Native.Nat.{ℕ, _+_, _^_, _≤_}
 use native.Mathlib.Omega.{arith}
 use lib.ListN.{length, length-append}
 use Rattle.records.specs.Lists.{cat}
 use Rattle.report.specs.Listing.{decimal, lineEnd, rowText, entryOf, rowOf}
-use Rattle.report.specs.Laws.{put-same, put-then, fits-rest}
+use Rattle.report.specs.Pieces.{put-same, put-then, fits-rest}
 use Rattle.report.proofs.text.put_row.Statement.{statement}
 use Rattle.report.proofs.text.put_row.Tie as tie
 

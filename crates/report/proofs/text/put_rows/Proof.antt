@@ -5,7 +5,7 @@ use native.Mathlib.Omega.{arith}
 use Rattle.records.specs.Lists.{cat}
 use Rattle.report.specs.Listing.{rowOf}
 use Rattle.report.specs.Promises.{Put}
-use Rattle.report.specs.Laws.{put-same, put-none, put-more, put-all, fits-next}
+use Rattle.report.specs.Pieces.{put-same, put-none, put-more, put-all, fits-next}
 use Rattle.report.proofs.text.put_rows.Statement.{statement}
 use Rattle.report.proofs.text.put_rows.Tie as tie
 

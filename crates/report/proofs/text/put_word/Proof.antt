@@ -1,10 +1,10 @@
 -- `report::text::put_word`: the bytes of the word before i are stored. Assumes nothing.
-use Prim.Native.Nat.{ℕ, _+_, _-_, _≤_}
+use Prim.Native.Nat.{_+_, _-_, _≤_}
 use native.Mathlib.Omega.{arith}
 use lib.ListN.{length, getD}
 use Rattle.records.specs.Lists.{tab}
 use Rattle.report.specs.Promises.{Put}
-use Rattle.report.specs.Laws.{put-same, word-none, word-more, word-all}
+use Rattle.report.specs.Pieces.{put-same, word-none, word-more, word-all}
 use Rattle.report.proofs.text.put_word.Statement.{statement}
 use Rattle.report.proofs.text.put_word.Tie as tie
 
