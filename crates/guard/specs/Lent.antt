@@ -29,17 +29,17 @@ lent tuples cells dropped gains bonuses values next choices order numbers =
     }
 
 -- each is long enough
-record Long (w : Work) : Type 0 where
-  tuples : tuplesLength ≤ w .tuples
-  cells : cellsLength ≤ w .cells
-  dropped : droppedLength ≤ w .dropped
-  gains : gainsLength ≤ w .gains
-  bonuses : bonusesLength ≤ w .bonuses
-  values : valuesLength ≤ w .values
-  next : valuesLength ≤ w .next
-  choices : choicesLength ≤ w .choices
-  order : orderLength ≤ w .order
-  numbers : orderLength ≤ w .numbers
+pub record Long (w : Work) : Type 0 where
+  pub tuples : tuplesLength ≤ w .tuples
+  pub cells : cellsLength ≤ w .cells
+  pub dropped : droppedLength ≤ w .dropped
+  pub gains : gainsLength ≤ w .gains
+  pub bonuses : bonusesLength ≤ w .bonuses
+  pub values : valuesLength ≤ w .values
+  pub next : valuesLength ≤ w .next
+  pub choices : choicesLength ≤ w .choices
+  pub order : orderLength ≤ w .order
+  pub numbers : orderLength ≤ w .numbers
 
 work-long : (w : Work) → workOk w ≡ true → Long w
 unfolding workOk

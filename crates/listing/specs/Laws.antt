@@ -10,18 +10,17 @@ use lib.Dec.{ltb, eqb}
 use lib.ListN.{length, take}
 use lib.Pow.{pow-mono}
 use lib.Seq.{sets, length-sets, take-append-seam}
-use borrow.Author.Tests.{ltb-false, le-leb, lt-leb}
+use borrow.Author.Tests.{ltb-false, le-leb, lt-leb, ne-eqb}
 use Rattle.records.specs.Tests.{by-test}
 use Rattle.records.specs.Limits.{maxStates}
 use Rattle.records.specs.Lists.{sets-front}
 use Rattle.records.specs.Numbers.{Bytes}
 use Rattle.records.specs.Layout.{rowLength, tableLength}
 use Rattle.sheet.specs.Decoded.{Decoded, SheetOk, inputLines}
-use Rattle.sheet.specs.Layout.{groundNumber}
+use Rattle.sheet.specs.Layout.{groundNumber, some-number}
 use Rattle.sheet.specs.Refusals.{sheetNumber, firstNumber}
 use Rattle.sheet.specs.Laws.{reads}
 use Rattle.sheet.specs.declared.layout.Refusal.{Refusal}
-use Rattle.sheet.specs.declared.layout.Refusal.the-variants as ground
 use Rattle.product.specs.Numbered.{stateCount}
 use Rattle.rounds.specs.Rounds.{isIn}
 use Rattle.supervisor.specs.Table.{droppedOf}
@@ -44,8 +43,9 @@ use Rattle.guard.specs.Promises.{
 }
 use Rattle.guard.specs.Lent.{Long}
 use Rattle.plan.specs.Reaching.{guard-fits}
-use Rattle.guard.specs.Running.{table-loads, sheet-horizon}
-use Rattle.guard.specs.Written.{length-guard}
+use Rattle.plan.specs.Solved.{sheet-horizon}
+use Rattle.guard.specs.Running.{table-loads}
+use Rattle.judge.specs.Judged.{length-guard}
 use Rattle.report.specs.Listing.{listing, listingOf, tooLongText}
 use Rattle.report.specs.Promises.{Writes, textLength, lineLength, outcomeNumber, outcomeText, listedLength}
 use Rattle.report.specs.Laws.{room-enough, list-number, listing-made}
@@ -127,16 +127,7 @@ front before table h = rw (sets-front before table h) (take-append-seam table _)
 
 -- a ground has a number
 some-ground : (g : Refusal) → eqb (groundNumber g) 0 ≡ false
-some-ground ground.Truncated = refl
-some-ground ground.Misplaced = refl
-some-ground ground.BadHead = refl
-some-ground ground.BadMonitor = refl
-some-ground ground.SeventhMonitor = refl
-some-ground ground.LongHorizon = refl
-some-ground ground.TooManyStates = refl
-some-ground ground.Unrealizable = refl
-some-ground ground.ShortResult = refl
-some-ground ground.ShortWork = refl
+some-ground g = ne-eqb (groundNumber g) 0 (λ z. omega (arith, some-number g .1))
 
 -- the number is none, and the text the one that is printed
 pub record Tells (s : List ℕ) (room number : ℕ) (words : List ℕ) : Type 0 where

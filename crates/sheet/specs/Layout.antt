@@ -1,7 +1,8 @@
 -- What the reader answers: a sheet's numbers and where its monitors lie, or a refusal with document 01's number.
 -- Assumes nothing.
+use mathlib.Core.Path.{_≡_, refl}
 use mathlib.Core.List.{List, [], _∷_}
-use Prim.Native.Nat.{ℕ, _+_}
+use Prim.Native.Nat.{ℕ, suc, _+_}
 use lib.ListN.{set, replicate}
 use Rattle.sheet.specs.declared.layout.Monitor.{Monitor}
 use Rattle.sheet.specs.declared.layout.Sheet.{Sheet}
@@ -65,6 +66,19 @@ groundNumber TooManyStates = 7
 groundNumber Unrealizable = 8
 groundNumber ShortResult = 9
 groundNumber ShortWork = 10
+
+-- none of them is 0
+pub some-number : (g : Refusal) → (n : ℕ) × (groundNumber g ≡ suc n)
+some-number Truncated = (0, refl)
+some-number Misplaced = (1, refl)
+some-number BadHead = (2, refl)
+some-number BadMonitor = (3, refl)
+some-number SeventhMonitor = (4, refl)
+some-number LongHorizon = (5, refl)
+some-number TooManyStates = (6, refl)
+some-number Unrealizable = (7, refl)
+some-number ShortResult = (8, refl)
+some-number ShortWork = (9, refl)
 
 -- and of a verdict, 0 for none
 abbrev pub verdictNumber : Verdict → ℕ

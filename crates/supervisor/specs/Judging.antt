@@ -14,7 +14,7 @@ use borrow.Author.Tests.{lt-ltb, le-ltb, le-leb, lt-leb, ne-eqb}
 use Rattle.records.specs.Tests.{by-test}
 use Rattle.records.specs.Limits.{maxStates}
 use Rattle.sheet.specs.Decoded.{Decoded, SheetOk, encode}
-use Rattle.sheet.specs.Layout.{groundNumber, verdictNumber}
+use Rattle.sheet.specs.Layout.{groundNumber, verdictNumber, some-number}
 use Rattle.sheet.specs.Where.{decoded}
 use Rattle.sheet.specs.Reader.{reading}
 use Rattle.sheet.specs.Refusals.{sheetNumber, firstNumber}
@@ -116,19 +116,6 @@ module _ (table : Decoded → List ℕ) (stateCounts : Decoded → ℕ) (d : Dec
     judges-made e h = record { number = sym (number-none d _ _ fits e h); size = refl; states = refl; bytes = refl }
 
 -- ---- answering for any bytes
-
--- a ground's number is not 0
-some-number : (g : Refusal) → (n : ℕ) × (groundNumber g ≡ suc n)
-some-number ground.Truncated = (0, refl)
-some-number ground.Misplaced = (1, refl)
-some-number ground.BadHead = (2, refl)
-some-number ground.BadMonitor = (3, refl)
-some-number ground.SeventhMonitor = (4, refl)
-some-number ground.LongHorizon = (5, refl)
-some-number ground.TooManyStates = (6, refl)
-some-number ground.Unrealizable = (7, refl)
-some-number ground.ShortResult = (8, refl)
-some-number ground.ShortWork = (9, refl)
 
 module _ (table : Decoded → List ℕ) (stateCounts : Decoded → ℕ) (work : Bool) (s before : List ℕ) where
   -- the work memory is too short
