@@ -64,19 +64,19 @@ pub fn entry_ok(t: &[u8], at: usize, outputs: u8, count: usize) -> bool
     false
 }
 
-// Whether every entry of a state's row is in range.
+// Whether every entry of a state's row is in range. From the last entry down: a loop up to a power of two is compiled with a
+// shift at each turn.
 fn entries_ok(t: &[u8], inputs: u8, outputs: u8, count: usize, place: usize) -> bool
     requires { ⌜ Sized (now t) inputs outputs count × (place < count) ⌝ }
     ensures { λ r. ⌜ r ≡ entriesOk (now (t .entry)) inputs outputs count place ⌝ }
 {
-    let entries = pow2(inputs);
-    let mut input: usize = 0;
-    while input < entries {
-        let at = Layout { inputs }.entry_at(place, input);
+    let mut left = pow2(inputs);
+    while 0 < left {
+        left -= 1;
+        let at = Layout { inputs }.entry_at(place, left);
         if !entry_ok(t, at, outputs, count) {
             return false;
         }
-        input += 1;
     }
     true
 }
