@@ -11,8 +11,10 @@ use Rattle.game.specs.Numbering.{explore, visit, met, meet, add, find}
 use Rattle.game.specs.Choice.{before, against, leader, choose}
 use Rattle.sheet.specs.Decoded.{inputsOf, lettersOf, encode, encodeHead, encodeMonitor}
 use Rattle.sheet.specs.Layout.{withMonitor}
-use Rattle.sheet.specs.Head.{siteOk, freshLine, literalOk, literalsOk, numbersOk, headOk, literalAt, headSheet, readHead}
-use Rattle.sheet.specs.Monitor.{roleOk, statesOk, bytesMost, monitorOk, monitorAt, takeMonitor}
+use Rattle.fields.specs.Head.{siteOk, freshLine, literalOk, literalsOk, numbersOk, headOk, literalAt}
+use Rattle.sheet.specs.Head.{headSheet, readHead}
+use Rattle.fields.specs.Monitor.{roleOk, statesOk, bytesMost}
+use Rattle.sheet.specs.Monitor.{monitorOk, monitorAt, takeMonitor}
 use Rattle.sheet.specs.Reader.{takeRecord, onFound, readRecords, firstFound, reading}
 use Rattle.sheet.specs.Refusals.{headNumber, recordNumber, recordsNumber, sheetNumber}
 use Rattle.sheet.specs.Where.{automaton, decoded}

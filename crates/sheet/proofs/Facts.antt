@@ -1,72 +1,13 @@
--- What the tests of a head's and of a monitor's body tell of their numbers.
+-- What the test of a monitor's body tells.
 -- Assumes nothing.
 use mathlib.Core.Path.{_≡_}
-use mathlib.Core.Bool.{Bool, true, false, cond}
+use mathlib.Core.Bool.{true}
 use mathlib.Core.List.{List}
-use Prim.Native.Nat.{ℕ, _+_, _*_, _≤_, _<_}
-use native.Mathlib.Omega.{arith}
-use borrow.Author.Tests.{leb-true, ltb-true, eqb-true}
-use lib.Dec.{eqb}
-use lib.ListN.{getD}
-use Rattle.records.specs.Tests.{and-left, and-right}
-use Rattle.records.specs.Limits.{linesOk, lines-facts}
-use Rattle.sheet.specs.Decoded.{inputsOf}
-use Rattle.sheet.specs.Head.{siteOk, numbersOk, headOk}
-use Rattle.sheet.specs.Monitor.{statesOk, monitorOk}
+use Prim.Native.Nat.{ℕ, _≤_}
+use borrow.Author.Tests.{leb-true}
+use Rattle.records.specs.Tests.{and-left}
+use Rattle.sheet.specs.Monitor.{monitorOk}
 use Rattle.sheet.specs.declared.layout.Sheet.{Sheet}
-
--- the site's lines are among the guard's inputs
-site-le : (mode site outputs : ℕ) → site ≤ inputsOf mode site outputs
-unfolding inputsOf
-site-le mode site outputs = go (eqb mode 1)
-  where
-    go : (b : Bool) → site ≤ cond b (site + outputs) site
-    go true = omega arith
-    go false = omega arith
-
--- the numbers of a head
-pub record Numbers (site outputs size : ℕ) : Type 0 where
-  pub site-most : site ≤ 4
-  pub outputs-most : outputs ≤ 3
-  pub lines-most : site + outputs ≤ 6
-  pub size-is : size ≡ 5 + outputs
-
-pub numbers-facts : (mode site outputs matching size : ℕ) → numbersOk mode site outputs matching size ≡ true
-    → Numbers site outputs size
-unfolding numbersOk siteOk
-numbers-facts mode site outputs matching size e =
-    let lines = lines-facts mode (inputsOf mode site outputs) outputs (search (and-left, and-right)) in
-    record {
-      site-most = leb-true site 4 (search (and-left, and-right));
-      outputs-most = lines .outputs-most;
-      lines-most = omega (arith, lines .lines-most, site-le mode site outputs);
-      size-is = eqb-true size (5 + outputs) (search (and-left, and-right));
-    }
-
-pub head-facts : (s : List ℕ) (start size : ℕ) → headOk s start size ≡ true
-    → Numbers (getD s (start + 1) 0) (getD s (start + 2) 0) size
-unfolding headOk
-head-facts s start size e =
-    numbers-facts (getD s start 0) (getD s (start + 1) 0) (getD s (start + 2) 0) (getD s (start + 4) 0) size
-    (search (and-left, and-right))
-
--- the numbers of a monitor
-pub record States (states start letters size : ℕ) : Type 0 where
-  pub states-least : 1 ≤ states
-  pub states-most : states ≤ 32
-  pub start-below : start < states
-  pub size-is : size ≡ 4 + states + states * letters
-
-pub states-facts : (states start letters size : ℕ) → statesOk states start letters size ≡ true
-    → States states start letters size
-unfolding statesOk
-states-facts states start letters size e =
-    record {
-      states-least = leb-true 1 states (search and-left);
-      states-most = leb-true states 32 (search (and-left, and-right));
-      start-below = ltb-true start states (search (and-left, and-right));
-      size-is = eqb-true size (4 + states + states * letters) (search (and-left, and-right));
-    }
 
 -- a monitor's body holds its four numbers
 pub monitor-least : (s : List ℕ) (h : Sheet) (start size : ℕ) → monitorOk s h start size ≡ true → 4 ≤ size

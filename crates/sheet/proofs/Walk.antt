@@ -14,7 +14,8 @@ use Rattle.records.specs.declared.cursor.Found.{Found}
 use Rattle.records.specs.declared.cursor.Found.the-variants as found
 use Rattle.sheet.specs.Decoded.{inputsOf}
 use Rattle.sheet.specs.Layout.{withMonitor, accepted, refused}
-use Rattle.sheet.specs.Head.{headOk, headSheet, readHead}
+use Rattle.fields.specs.Head.{headOk}
+use Rattle.sheet.specs.Head.{headSheet, readHead}
 use Rattle.sheet.specs.Monitor.{monitorOk, monitorAt, takeMonitor}
 use Rattle.sheet.specs.Reader.{takeRecord, onFound, readRecords}
 use Rattle.sheet.specs.declared.layout.Sheet.{Sheet}
@@ -22,7 +23,7 @@ use Rattle.sheet.specs.declared.layout.Refusal.{Refusal}
 use Rattle.sheet.specs.declared.layout.Refusal.the-variants.{Truncated, Misplaced, BadHead, BadMonitor, SeventhMonitor, LongHorizon}
 use Rattle.sheet.specs.declared.layout.Verdict.the-variants.{Accepted, Refused}
 use Rattle.sheet.specs.declared.layout.Reading.{Reading}
-use Rattle.sheet.proofs.Facts.{Numbers, head-facts}
+use Rattle.fields.specs.Facts.{Numbers, head-facts}
 
 -- the lines that monitors read: site lines and outputs
 abbrev pub lines : Sheet → ℕ

@@ -12,7 +12,8 @@ use Rattle.records.specs.declared.cursor.Found.{Found}
 use Rattle.records.specs.declared.cursor.Found.the-variants as found
 use Rattle.sheet.specs.Decoded.{inputsOf}
 use Rattle.sheet.specs.Layout.{accepted, refused, verdictNumber, withMonitor}
-use Rattle.sheet.specs.Head.{headOk, headSheet, readHead}
+use Rattle.fields.specs.Head.{headOk}
+use Rattle.sheet.specs.Head.{headSheet, readHead}
 use Rattle.sheet.specs.Monitor.{monitorOk, monitorAt, takeMonitor}
 use Rattle.sheet.specs.Reader.{after, takeRecord, onFound, readRecords, firstFound, reading}
 use Rattle.sheet.specs.Refusals.{headNumber, recordNumber, firstNumber, recordsNumber, sheetNumber}

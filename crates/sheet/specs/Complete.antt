@@ -18,7 +18,8 @@ use Rattle.records.specs.Limits.{horizonOk}
 use Rattle.sheet.specs.Decoded.{Automaton, Decoded, noAutomaton, monitorOf, inputsOf, inputLines, lettersOf, letters, HeadOk, HorizonOk, MonitorOk, SheetOk, encodeHead, encodeMonitor, encode}
 use Rattle.sheet.specs.Layout.{verdictNumber}
 use Rattle.sheet.specs.Where.{automaton, placed, decoded}
-use Rattle.sheet.specs.Head.{headOk, headSheet}
+use Rattle.fields.specs.Head.{headOk}
+use Rattle.sheet.specs.Head.{headSheet}
 use Rattle.sheet.specs.Reader.{reading}
 use Rattle.sheet.specs.Turns.{offset, upto, Turn, Chain, chain-reads, placed-at}
 use Rattle.sheet.specs.Judged.{Numbers, Literals, head-test}

@@ -2,13 +2,12 @@
 -- offsets or of the order in which a reader looks.
 -- Assumes nothing.
 use mathlib.Core.Path.{_≡_}
-use mathlib.Core.Bool.{Bool, cond}
 use mathlib.Core.List.{List, [], _∷_, _++_}
-use Prim.Native.Nat.{ℕ, _+_, _*_, _^_, _%_, _≤_, _<_}
-use lib.Dec.{eqb}
+use Prim.Native.Nat.{ℕ, _+_, _*_, _%_, _≤_, _<_}
 use lib.ListN.{length, getD}
 use Rattle.records.specs.Lists.{cat}
 use Rattle.records.specs.Cursor.{header}
+unfoldable pub use Rattle.fields.specs.Lines.{inputsOf, lettersOf}
 
 -- a monitor: an automaton whose states are the indices of `accept`; `rows` has its next state for each state and letter
 pub record Automaton : Type 0 where
@@ -37,16 +36,10 @@ abbrev pub monitorOf : Decoded → ℕ → Automaton
 monitorOf d j = getD (d .monitors) j noAutomaton
 
 -- the guard's input lines: in mode 1 the proposal's lines come on top of the site's
-unfoldable pub inputsOf : ℕ → ℕ → ℕ → ℕ
-inputsOf mode site outputs = cond (eqb mode 1) (site + outputs) site
-
 abbrev pub inputLines : Decoded → ℕ
 inputLines d = inputsOf (d .mode) (d .site) (d .outputs)
 
--- the letters that a monitor reads: four for a deviation limit (role 2), else those of site lines and outputs
-unfoldable pub lettersOf : ℕ → ℕ → ℕ → ℕ
-lettersOf role site outputs = cond (eqb role 2) 4 (2 ^ (site + outputs))
-
+-- the letters that a monitor reads
 abbrev pub letters : Decoded → Automaton → ℕ
 letters d a = lettersOf (a .role) (d .site) (d .outputs)
 

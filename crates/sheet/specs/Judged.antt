@@ -13,8 +13,9 @@ use Rattle.records.specs.Tests.{both-ways, by-test, and-left, and-right, or-not
 use Rattle.records.specs.Bounded.{all-at, all-of}
 use Rattle.records.specs.Limits.{linesOk, Lines, lines-facts}
 use Rattle.sheet.specs.Decoded.{inputsOf, lettersOf}
-use Rattle.sheet.specs.Head.{siteOk, freshLine, literalOk, literalsOk, numbersOk, headOk}
-use Rattle.sheet.specs.Monitor.{roleOk, statesOk, bytesMost, monitorOk}
+use Rattle.fields.specs.Head.{siteOk, freshLine, literalOk, literalsOk, numbersOk, headOk}
+use Rattle.fields.specs.Monitor.{roleOk, statesOk, bytesMost}
+use Rattle.sheet.specs.Monitor.{monitorOk}
 use Rattle.sheet.specs.declared.layout.Sheet.{Sheet}
 
 -- ---- the head

@@ -11,7 +11,8 @@ use Rattle.records.specs.declared.cursor.Found.{Found}
 use Rattle.records.specs.declared.cursor.Found.the-variants as found
 use Rattle.sheet.specs.Decoded.{inputsOf}
 use Rattle.sheet.specs.Layout.{withMonitor}
-use Rattle.sheet.specs.Head.{headOk, headSheet}
+use Rattle.fields.specs.Head.{headOk}
+use Rattle.sheet.specs.Head.{headSheet}
 use Rattle.sheet.specs.Monitor.{monitorOk, monitorAt}
 use Rattle.sheet.specs.declared.layout.Sheet.{Sheet}
 

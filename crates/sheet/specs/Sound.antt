@@ -15,7 +15,8 @@ use Rattle.records.specs.Limits.{Horizon, horizon-facts}
 use Rattle.sheet.specs.Decoded.{Decoded, monitorOf, inputsOf, lettersOf, HeadOk, HorizonOk, MonitorOk, SheetOk, encodeHead, encodeMonitor, encode}
 use Rattle.sheet.specs.Layout.{verdictNumber}
 use Rattle.sheet.specs.Where.{width, automaton, decoded, Fits}
-use Rattle.sheet.specs.Head.{headSheet, literalAt}
+use Rattle.fields.specs.Head.{literalAt}
+use Rattle.sheet.specs.Head.{headSheet}
 use Rattle.sheet.specs.Monitor.{monitorAt}
 use Rattle.sheet.specs.Reader.{reading}
 use Rattle.sheet.specs.Turns.{offset, upto, Chain, chain-of, placed-at, offset-up}

@@ -20,7 +20,8 @@ use Rattle.records.specs.Limits.{horizonOk}
 use Rattle.sheet.specs.Decoded.{inputsOf}
 use Rattle.sheet.specs.Layout.{noMonitor, accepted, refused, verdictNumber, withMonitor}
 use Rattle.sheet.specs.Where.{placed}
-use Rattle.sheet.specs.Head.{headOk, headSheet, readHead}
+use Rattle.fields.specs.Head.{headOk}
+use Rattle.sheet.specs.Head.{headSheet, readHead}
 use Rattle.sheet.specs.Monitor.{monitorOk, monitorAt, takeMonitor}
 use Rattle.sheet.specs.Reader.{takeRecord, onFound, readRecords, firstFound, reading}
 use Rattle.sheet.specs.Agree.{chained}

@@ -91,9 +91,6 @@ impl Sheet {
     // A sheet has at most so many monitors.
     pub const MONITORS: usize = 6;
 
-    // A monitor has at most so many states.
-    pub const MONITOR_STATES: u8 = 32;
-
     pub fn blank() -> Sheet
         ensures { λ r. ⌜ r ≡ blank ⌝ }
     {

@@ -9,8 +9,9 @@ use denote.Ref.{now}
 use lib.ListN.{getD}
 use Rattle.records.specs.Tests.{said-no, said-yes}
 use Rattle.sheet.specs.Decoded.{inputsOf}
-use Rattle.sheet.specs.Head.{headOk, readHead}
-use Rattle.sheet.proofs.Facts.{Numbers, head-facts}
+use Rattle.fields.specs.Head.{headOk}
+use Rattle.sheet.specs.Head.{readHead}
+use Rattle.fields.specs.Facts.{Numbers, head-facts}
 use Rattle.sheet.proofs.head.read_head.Statement.{statement}
 use Rattle.sheet.proofs.head.read_head.Tie as tie
 

@@ -1,9 +1,9 @@
--- `sheet::head::site_ok`: the tests in the definition's order. Assumes nothing.
+-- `fields::head::site_ok`: the tests in the definition's order. Assumes nothing.
 use borrow.Author.Needs.{needs}
 use Rattle.records.specs.Tests.{cases}
-use Rattle.sheet.specs.Head.{siteOk}
-use Rattle.sheet.proofs.head.site_ok.Statement.{statement}
-use Rattle.sheet.proofs.head.site_ok.Tie as tie
+use Rattle.fields.specs.Head.{siteOk}
+use Rattle.fields.proofs.head.site_ok.Statement.{statement}
+use Rattle.fields.proofs.head.site_ok.Tie as tie
 
 returns : tie.Need-returns
 unfolding siteOk

@@ -1,8 +1,8 @@
--- `sheet::monitor::role_ok`: an arm for each role. Assumes nothing.
+-- `fields::monitor::role_ok`: an arm for each role. Assumes nothing.
 use Rattle.records.specs.Tests.{cases}
-use Rattle.sheet.specs.Monitor.{roleOk}
-use Rattle.sheet.proofs.monitor.role_ok.Statement.{statement}
-use Rattle.sheet.proofs.monitor.role_ok.Tie as tie
+use Rattle.fields.specs.Monitor.{roleOk}
+use Rattle.fields.proofs.monitor.role_ok.Statement.{statement}
+use Rattle.fields.proofs.monitor.role_ok.Tie as tie
 
 returns : tie.Need-returns
 unfolding roleOk

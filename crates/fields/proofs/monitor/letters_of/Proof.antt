@@ -1,12 +1,12 @@
--- `sheet::monitor::letters_of`: at most six lines make at most 64 letters. Assumes nothing.
+-- `fields::monitor::letters_of`: at most six lines make at most 64 letters. Assumes nothing.
 use Prim.Native.Nat.{_+_}
 use native.Mathlib.Omega.{arith}
 use borrow.Author.Needs.{needs}
 use lib.Pow.{pow-mono}
 use Rattle.records.specs.Tests.{cases}
-use Rattle.sheet.specs.Decoded.{lettersOf}
-use Rattle.sheet.proofs.monitor.letters_of.Statement.{statement}
-use Rattle.sheet.proofs.monitor.letters_of.Tie as tie
+use Rattle.fields.specs.Lines.{lettersOf}
+use Rattle.fields.proofs.monitor.letters_of.Statement.{statement}
+use Rattle.fields.proofs.monitor.letters_of.Tie as tie
 
 returns : tie.Need-returns
 unfolding lettersOf

@@ -1,13 +1,13 @@
--- `sheet::monitor::states_ok`: the tests in the definition's order; 32 states and 64 letters make a size that fits.
+-- `fields::monitor::states_ok`: the tests in the definition's order; 32 states and 64 letters make a size that fits.
 -- Assumes nothing.
 use Prim.Native.Nat.{_*_, _≤_}
 use native.Mathlib.Omega.{arith}
 use native.Mathlib.Nat.{mul-le-mul}
 use borrow.Author.Needs.{needs}
 use Rattle.records.specs.Tests.{cases}
-use Rattle.sheet.specs.Monitor.{statesOk}
-use Rattle.sheet.proofs.monitor.states_ok.Statement.{statement}
-use Rattle.sheet.proofs.monitor.states_ok.Tie as tie
+use Rattle.fields.specs.Monitor.{statesOk}
+use Rattle.fields.proofs.monitor.states_ok.Statement.{statement}
+use Rattle.fields.proofs.monitor.states_ok.Tie as tie
 
 -- the size of the rows
 rows : (c : tie.Else3) → c .before .before .before .args .states * c .before .before .before .args .letters ≤ 32 * 64

@@ -1,9 +1,9 @@
--- `sheet::head::numbers_ok`: the tests in the definition's order. Assumes nothing.
+-- `fields::head::numbers_ok`: the tests in the definition's order. Assumes nothing.
 use borrow.Author.Needs.{needs}
 use Rattle.records.specs.Tests.{cases, said-no, said-yes}
-use Rattle.sheet.specs.Head.{numbersOk}
-use Rattle.sheet.proofs.head.numbers_ok.Statement.{statement}
-use Rattle.sheet.proofs.head.numbers_ok.Tie as tie
+use Rattle.fields.specs.Head.{numbersOk}
+use Rattle.fields.proofs.head.numbers_ok.Statement.{statement}
+use Rattle.fields.proofs.head.numbers_ok.Tie as tie
 
 site-ok-requires : tie.Need-site-ok-requires
 site-ok-requires c κs = search needs

@@ -1,9 +1,9 @@
--- `sheet::head::literal_at`: the tests in the definition's order. Assumes nothing.
+-- `fields::head::literal_at`: the tests in the definition's order. Assumes nothing.
 use borrow.Author.Needs.{needs}
 use Rattle.records.specs.Tests.{cases}
-use Rattle.sheet.specs.Head.{literalAt}
-use Rattle.sheet.proofs.head.literal_at.Statement.{statement}
-use Rattle.sheet.proofs.head.literal_at.Tie as tie
+use Rattle.fields.specs.Head.{literalAt}
+use Rattle.fields.proofs.head.literal_at.Statement.{statement}
+use Rattle.fields.proofs.head.literal_at.Tie as tie
 
 add-result : tie.Need-add-result
 add-result c = search needs

@@ -1,4 +1,4 @@
--- `sheet::head::literals_ok`: a search with an early return. The invariant: the literals before j are in order.
+-- `fields::head::literals_ok`: a search with an early return. The invariant: the literals before j are in order.
 -- Assumes nothing.
 use mathlib.Core.Path.{_≡_, sym}
 use mathlib.Core.Bool.{true}
@@ -8,9 +8,9 @@ use borrow.Author.Count.{below-none, below-more}
 use borrow.Author.Needs.{needs}
 use Rattle.records.specs.Tests.{said-no, said-yes}
 use Rattle.records.specs.Bounded.{all-of, all-fails}
-use Rattle.sheet.specs.Head.{literalOk, literalsOk}
-use Rattle.sheet.proofs.head.literals_ok.Statement.{statement}
-use Rattle.sheet.proofs.head.literals_ok.Tie as tie
+use Rattle.fields.specs.Head.{literalOk, literalsOk}
+use Rattle.fields.proofs.head.literals_ok.Statement.{statement}
+use Rattle.fields.proofs.head.literals_ok.Tie as tie
 
 abbrev Inv-loop : tie.InvT-loop
 Inv-loop s at outputs n j₀ j = (j ≤ outputs) × ((k : ℕ) → k < j → literalOk s at outputs k ≡ true)

@@ -1,9 +1,9 @@
--- `sheet::head::inputs_of`: the tests in the definition's order. Assumes nothing.
+-- `fields::head::inputs_of`: the tests in the definition's order. Assumes nothing.
 use borrow.Author.Needs.{needs}
 use Rattle.records.specs.Tests.{cases}
-use Rattle.sheet.specs.Decoded.{inputsOf}
-use Rattle.sheet.proofs.head.inputs_of.Statement.{statement}
-use Rattle.sheet.proofs.head.inputs_of.Tie as tie
+use Rattle.fields.specs.Lines.{inputsOf}
+use Rattle.fields.proofs.head.inputs_of.Statement.{statement}
+use Rattle.fields.proofs.head.inputs_of.Tie as tie
 
 add-result : tie.Need-add-result
 add-result c = search needs

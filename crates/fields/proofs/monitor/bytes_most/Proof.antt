@@ -1,4 +1,4 @@
--- `sheet::monitor::bytes_most`: a search with an early return. The invariant: the bytes before k are at most `most`.
+-- `fields::monitor::bytes_most`: a search with an early return. The invariant: the bytes before k are at most `most`.
 -- Assumes nothing.
 use mathlib.Core.Path.{_≡_, sym}
 use mathlib.Core.Bool.{true}
@@ -10,9 +10,9 @@ use lib.Dec.{leb}
 use lib.ListN.{getD}
 use Rattle.records.specs.Tests.{cases}
 use Rattle.records.specs.Bounded.{all-of, all-fails}
-use Rattle.sheet.specs.Monitor.{bytesMost}
-use Rattle.sheet.proofs.monitor.bytes_most.Statement.{statement}
-use Rattle.sheet.proofs.monitor.bytes_most.Tie as tie
+use Rattle.fields.specs.Monitor.{bytesMost}
+use Rattle.fields.proofs.monitor.bytes_most.Statement.{statement}
+use Rattle.fields.proofs.monitor.bytes_most.Tie as tie
 
 abbrev Inv-loop : tie.InvT-loop
 Inv-loop s at n most k₀ k = (k ≤ n) × ((j : ℕ) → j < k → leb (getD s (at + j) 0) most ≡ true)

@@ -1,9 +1,9 @@
--- `sheet::head::literal_ok`: the tests in the definition's order. Assumes nothing.
+-- `fields::head::literal_ok`: the tests in the definition's order. Assumes nothing.
 use borrow.Author.Needs.{needs}
 use Rattle.records.specs.Tests.{cases}
-use Rattle.sheet.specs.Head.{literalOk}
-use Rattle.sheet.proofs.head.literal_ok.Statement.{statement}
-use Rattle.sheet.proofs.head.literal_ok.Tie as tie
+use Rattle.fields.specs.Head.{literalOk}
+use Rattle.fields.proofs.head.literal_ok.Statement.{statement}
+use Rattle.fields.proofs.head.literal_ok.Tie as tie
 
 add-literal : tie.Need-add-literal
 add-literal c = search needs

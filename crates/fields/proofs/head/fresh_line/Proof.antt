@@ -1,4 +1,4 @@
--- `sheet::head::fresh_line`: a search with an early return. The invariant: no line before i is that of the literal at j.
+-- `fields::head::fresh_line`: a search with an early return. The invariant: no line before i is that of the literal at j.
 -- Assumes nothing.
 use mathlib.Core.Path.{_≡_, sym}
 use mathlib.Core.Bool.{true, not}
@@ -10,9 +10,9 @@ use lib.Dec.{eqb}
 use lib.ListN.{getD}
 use Rattle.records.specs.Tests.{cases}
 use Rattle.records.specs.Bounded.{all-of, all-fails}
-use Rattle.sheet.specs.Head.{freshLine}
-use Rattle.sheet.proofs.head.fresh_line.Statement.{statement}
-use Rattle.sheet.proofs.head.fresh_line.Tie as tie
+use Rattle.fields.specs.Head.{freshLine}
+use Rattle.fields.proofs.head.fresh_line.Statement.{statement}
+use Rattle.fields.proofs.head.fresh_line.Tie as tie
 
 abbrev Inv-loop : tie.InvT-loop
 Inv-loop s at j i₀ i = (i ≤ j) × ((k : ℕ) → k < i → not (eqb (getD s (at + k) 0 % 8) (getD s (at + j) 0 % 8)) ≡ true)

@@ -1,0 +1,5 @@
+-- The fields of a sheet's records: lines and letters, the tests of heads and monitors, and what they tell.
+pub mod Lines
+pub mod Head
+pub mod Monitor
+pub mod Facts

@@ -1,0 +1,13 @@
+-- What a head's lines come to: the guard's input lines, and the letters that a monitor reads.
+-- Assumes nothing.
+use mathlib.Core.Bool.{cond}
+use Prim.Native.Nat.{ℕ, _+_, _^_}
+use lib.Dec.{eqb}
+
+-- the guard's input lines: in mode 1 the proposal's lines come on top of the site's
+unfoldable pub inputsOf : ℕ → ℕ → ℕ → ℕ
+inputsOf mode site outputs = cond (eqb mode 1) (site + outputs) site
+
+-- the letters that a monitor reads: four for a deviation limit (role 2), else those of site lines and outputs
+unfoldable pub lettersOf : ℕ → ℕ → ℕ → ℕ
+lettersOf role site outputs = cond (eqb role 2) 4 (2 ^ (site + outputs))

@@ -1,0 +1,3 @@
+// The fields of a sheet's records: when they are in bounds.
+pub mod head;
+pub mod monitor;
