@@ -46,7 +46,7 @@ use Rattle.plan.specs.Reaching.{guard-fits}
 use Rattle.plan.specs.Solved.{sheet-horizon}
 use Rattle.guard.specs.Running.{table-loads}
 use Rattle.judge.specs.Judged.{length-guard}
-use Rattle.report.specs.Listing.{listing, listingOf, tooLongText}
+use Rattle.text.specs.Listing.{listing, listingOf, tooLongText}
 use Rattle.report.specs.Promises.{Writes, textLength, lineLength, outcomeNumber, outcomeText, listedLength}
 use Rattle.report.specs.Laws.{room-enough, list-number, listing-made}
 use Rattle.report.specs.declared.Listed.{Listed}

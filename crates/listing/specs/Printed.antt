@@ -15,7 +15,7 @@ use Rattle.rounds.specs.Rounds.{isIn}
 use Rattle.supervisor.specs.Table.{droppedOf}
 use Rattle.supervisor.specs.Making.{sheetOf}
 use Rattle.guard.specs.Table.{guardTableOf}
-use Rattle.report.specs.Listing.{listingOf, refusedText, tooLongText}
+use Rattle.text.specs.Listing.{listingOf, refusedText, tooLongText}
 
 -- the most bytes of a sheet
 abbrev pub sheetMost : ℕ

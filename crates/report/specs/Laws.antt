@@ -17,26 +17,17 @@ use Rattle.records.specs.Layout.{entryAt, guardTable}
 use Rattle.records.specs.GuardTable.{table-head, entry-output, entry-next}
 use Rattle.tables.specs.Loadable.{loadable, entryOk}
 use Rattle.tables.specs.Facts.{loadable-head, loadable-entry}
-use Rattle.report.specs.Listing.{decimal, lineEnd, labelled, headLine, entryText, rowText, listing, refusedText, outputIn, nextIn, listingOf}
+use Rattle.text.specs.Listing.{decimal, lineEnd, labelled, headLine, entryText, rowText, listing, refusedText, outputIn, nextIn, listingOf}
 use Rattle.sheet.specs.Layout.{groundNumber}
 use Rattle.sheet.specs.declared.layout.Refusal.{Refusal}
 use Rattle.supervisor.specs.declared.make.Made.{Made}
 use Rattle.supervisor.specs.declared.make.Made.the-variants.{Table, Refused}
-use Rattle.report.specs.Promises.{
-  Put,
-  Filled,
-  textLength,
-  lineLength,
-  Writes,
-  roomNumber,
-  listNumber,
-  outcomeNumber,
-  outcomeText,
-}
+use Rattle.text.specs.Put.{Put, Filled}
+use Rattle.report.specs.Promises.{textLength, lineLength, Writes, roomNumber, listNumber, outcomeNumber, outcomeText}
 use Rattle.report.specs.declared.Listed.{Listed}
 use Rattle.report.specs.declared.Listed.the-variants.{Text, NoTable, ShortText}
-use Rattle.report.specs.Digits.{one-digit, two-most, three-most}
-use Rattle.report.specs.Pieces.{put-same}
+use Rattle.text.specs.Digits.{one-digit, two-most, three-most}
+use Rattle.text.specs.Pieces.{put-same}
 
 -- ---- the answer
 

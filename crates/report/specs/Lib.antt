@@ -1,6 +1,3 @@
--- The listing: its text (Listing), what the writers of it promise (Promises), and the laws behind them.
-pub mod Listing
+-- The listing: what the writers of it promise (Promises), and the laws behind them.
 pub mod Promises
-pub mod Digits
-pub mod Pieces
 pub mod Laws

@@ -3,31 +3,17 @@
 use mathlib.Core.Path.{_≡_}
 use mathlib.Core.Bool.{cond}
 use mathlib.Core.List.{List}
-use Prim.Native.Nat.{ℕ, _+_, _≤_}
+use Prim.Native.Nat.{ℕ, _≤_}
 use lib.Dec.{leb, eqb}
 use lib.ListN.{length, take}
 use lib.Seq.{sets}
-use Rattle.records.specs.Limits.{maxStates}
-use Rattle.records.specs.Layout.{tableLength}
 use Rattle.tables.specs.Loadable.{loadable}
 use Rattle.sheet.specs.Layout.{groundNumber}
 use Rattle.supervisor.specs.declared.make.Made.{Made}
 use Rattle.supervisor.specs.declared.make.Made.the-variants.{Table, Refused}
-use Rattle.report.specs.Listing.{listingOf, refusedText}
+use Rattle.text.specs.Listing.{listingOf, refusedText}
 use Rattle.report.specs.declared.Listed.{Listed}
 use Rattle.report.specs.declared.Listed.the-variants.{Text, NoTable, ShortText}
-
--- ---- inside: words put at a place, and the place after them
-
-pub record Put (before : List ℕ) (at : ℕ) (words : List ℕ) (place : ℕ) (after : List ℕ) : Type 0 where
-  pub place-is : place ≡ at + length words
-  pub bytes : after ≡ sets before at words
-
--- a table that is as long as its head's fields, which are in bounds, say
-pub record Filled (t : List ℕ) (inputs count : ℕ) : Type 0 where
-  pub inputs-most : inputs ≤ 4
-  pub count-most : count ≤ maxStates
-  pub fills : length t ≡ tableLength inputs count
 
 -- ---- an answer: document 01's number, 0 for none, and the length of the text, 0 on a refusal
 

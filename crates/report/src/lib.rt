@@ -1,15 +1,13 @@
 // The listing of a guard table, and what is said where there is none, as text.
-use crate::text::put_byte;
-use crate::text::put_labelled;
-use crate::text::put_listing;
-use crate::text::put_word;
 use supervisor::make::Made;
 use tables::is_loadable;
+use text::put_byte;
+use text::put_labelled;
+use text::put_listing;
+use text::put_word;
 ghost use lib.ListN.{length};
-ghost use Rattle.report.specs.Listing.{listingOf, refusedText, tooLongText};
+ghost use Rattle.text.specs.Listing.{listingOf, refusedText, tooLongText};
 ghost use Rattle.report.specs.Promises.{lineLength, roomNumber, listNumber, outcomeNumber, outcomeText, Writes};
-
-pub mod text;
 
 // What a writer of text answers: the bytes of its text, or why it wrote none.
 pub enum Listed {

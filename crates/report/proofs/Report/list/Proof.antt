@@ -8,8 +8,8 @@ use denote.Ref.{now}
 use Rattle.records.specs.Tests.{said-no, said-yes}
 use Rattle.tables.specs.Loadable.{loadable}
 use Rattle.tables.specs.Facts.{loadable-head}
-use Rattle.report.specs.Listing.{listingOf}
-use Rattle.report.specs.Pieces.{put-same}
+use Rattle.text.specs.Listing.{listingOf}
+use Rattle.text.specs.Pieces.{put-same}
 use Rattle.report.specs.Laws.{writes-text, writes-short, writes-no-table, room-short, room-enough, list-number, no-table, loadable-filled, listing-most}
 use borrow.Author.Needs.{needs}
 use Rattle.report.proofs.Report.list.Statement.{statement}

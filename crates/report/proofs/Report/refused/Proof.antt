@@ -3,8 +3,8 @@ use mathlib.Core.Path.{refl}
 use Prim.Native.Nat.{_≤_}
 use native.Mathlib.Omega.{arith}
 use lib.ListN.{length, length-append}
-use Rattle.report.specs.Listing.{refusedWord, lineEnd, labelled, refusedText}
-use Rattle.report.specs.Pieces.{put-same, put-then, fits-rest}
+use Rattle.text.specs.Listing.{refusedWord, lineEnd, labelled, refusedText}
+use Rattle.text.specs.Pieces.{put-same, put-then, fits-rest}
 use Rattle.report.specs.Laws.{writes-text, writes-short, room-short, room-enough, refused-most}
 use borrow.Author.Needs.{needs}
 use Rattle.report.proofs.Report.refused.Statement.{statement}

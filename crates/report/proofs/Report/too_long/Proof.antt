@@ -1,7 +1,7 @@
 -- `report::Report::too_long`: 9, then the line. Assumes nothing.
 use mathlib.Core.Path.{refl}
 use native.Mathlib.Omega.{arith}
-use Rattle.report.specs.Pieces.{put-same}
+use Rattle.text.specs.Pieces.{put-same}
 use Rattle.report.specs.Laws.{writes-text, writes-short, room-short, room-enough}
 use Rattle.report.proofs.Report.too_long.Statement.{statement}
 use Rattle.report.proofs.Report.too_long.Tie as tie

@@ -1,10 +1,10 @@
--- `report::text::put_labelled`: the word, then the number. Assumes nothing.
+-- `text::put_labelled`: the word, then the number. Assumes nothing.
 use native.Mathlib.Omega.{arith}
 use lib.ListN.{length-append}
-use Rattle.report.specs.Listing.{decimal, labelled}
-use Rattle.report.specs.Pieces.{put-same, put-then, fits-rest}
-use Rattle.report.proofs.text.put_labelled.Statement.{statement}
-use Rattle.report.proofs.text.put_labelled.Tie as tie
+use Rattle.text.specs.Listing.{decimal, labelled}
+use Rattle.text.specs.Pieces.{put-same, put-then, fits-rest}
+use Rattle.text.proofs.put_labelled.Statement.{statement}
+use Rattle.text.proofs.put_labelled.Tie as tie
 
 -- the place that the needs look back to
 abbrev start : tie.After-put-word → tie.Start

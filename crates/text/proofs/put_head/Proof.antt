@@ -1,14 +1,14 @@
--- `report::text::put_head`: four numbers with their words, and the end of the line. Assumes nothing.
+-- `text::put_head`: four numbers with their words, and the end of the line. Assumes nothing.
 use mathlib.Core.Path.{refl}
 use mathlib.Core.List.{List, _++_}
 use Prim.Native.Nat.{ℕ, _+_, _≤_}
 use native.Mathlib.Omega.{arith}
 use lib.ListN.{length, length-append}
-use Rattle.report.specs.Listing.{statesWord, inputsWord, outputsWord, horizonWord, lineEnd, labelled, headLine}
-use Rattle.report.specs.Pieces.{put-same, put-then, fits-rest}
+use Rattle.text.specs.Listing.{statesWord, inputsWord, outputsWord, horizonWord, lineEnd, labelled, headLine}
+use Rattle.text.specs.Pieces.{put-same, put-then, fits-rest}
 use borrow.Author.Needs.{needs}
-use Rattle.report.proofs.text.put_head.Statement.{statement}
-use Rattle.report.proofs.text.put_head.Tie as tie
+use Rattle.text.proofs.put_head.Statement.{statement}
+use Rattle.text.proofs.put_head.Tie as tie
 
 -- the places that the needs look back to
 abbrev start : tie.After-put-labelled → tie.Start

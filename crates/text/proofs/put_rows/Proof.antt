@@ -1,13 +1,13 @@
--- `report::text::put_rows`: the lines of the states before k are put. Assumes nothing.
+-- `text::put_rows`: the lines of the states before k are put. Assumes nothing.
 use mathlib.Core.List.{List}
 use Prim.Native.Nat.{ℕ, _-_, _≤_}
 use native.Mathlib.Omega.{arith}
 use Rattle.records.specs.Lists.{cat}
-use Rattle.report.specs.Listing.{rowOf}
-use Rattle.report.specs.Promises.{Put}
-use Rattle.report.specs.Pieces.{put-same, put-none, put-more, put-all, fits-next}
-use Rattle.report.proofs.text.put_rows.Statement.{statement}
-use Rattle.report.proofs.text.put_rows.Tie as tie
+use Rattle.text.specs.Listing.{rowOf}
+use Rattle.text.specs.Put.{Put}
+use Rattle.text.specs.Pieces.{put-same, put-none, put-more, put-all, fits-next}
+use Rattle.text.proofs.put_rows.Statement.{statement}
+use Rattle.text.proofs.put_rows.Tie as tie
 
 abbrev Inv-loop : tie.InvT-loop
 Inv-loop text₀ at table inputs count place₀ k₀ text place k = (k ≤ count) × Put text₀ at (cat k (rowOf table inputs)) place text

@@ -1,15 +1,15 @@
--- `report::text::put_entries`: the entries of the inputs before i are put. Assumes nothing.
+-- `text::put_entries`: the entries of the inputs before i are put. Assumes nothing.
 use Prim.Native.Nat.{_+_, _-_, _^_, _≤_, _<_}
 use native.Mathlib.Omega.{arith}
 use lib.ListN.{length}
 use lib.Pow.{pow-mono}
 use Rattle.records.specs.Lists.{cat}
 use Rattle.records.specs.GuardTable.{entry-inside}
-use Rattle.report.specs.Listing.{entryOf}
-use Rattle.report.specs.Promises.{Put}
-use Rattle.report.specs.Pieces.{put-same, put-none, put-more, put-all, put-as, fits-next, entry-found}
-use Rattle.report.proofs.text.put_entries.Statement.{statement}
-use Rattle.report.proofs.text.put_entries.Tie as tie
+use Rattle.text.specs.Listing.{entryOf}
+use Rattle.text.specs.Put.{Put}
+use Rattle.text.specs.Pieces.{put-same, put-none, put-more, put-all, put-as, fits-next, entry-found}
+use Rattle.text.proofs.put_entries.Statement.{statement}
+use Rattle.text.proofs.put_entries.Tie as tie
 
 abbrev Inv-loop : tie.InvT-loop
 Inv-loop text₀ at table inputs count k layout entries place₀ i₀ text place i =

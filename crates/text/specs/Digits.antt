@@ -8,7 +8,7 @@ use native.Mathlib.Decide.{decLt}
 use native.Mathlib.Omega.{arith}
 use lib.ListN.{length}
 use borrow.Author.Tests.{lt-ltb, le-ltb}
-use Rattle.report.specs.Listing.{decimalFrom, decimal}
+use Rattle.text.specs.Listing.{decimalFrom, decimal}
 
 from-digit : (f n : ℕ) → n < 10 → decimalFrom (suc f) n ≡ (48 + n) ∷ []
 unfolding decimalFrom

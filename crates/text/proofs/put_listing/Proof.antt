@@ -1,14 +1,14 @@
--- `report::text::put_listing`: the first line, then the lines of the states. Assumes nothing.
+-- `text::put_listing`: the first line, then the lines of the states. Assumes nothing.
 use mathlib.Core.Path.{_≡_, ap}
 use mathlib.Core.List.{List, _++_}
 use Prim.Native.Nat.{ℕ, _+_, _≤_}
 use native.Mathlib.Omega.{arith}
 use lib.ListN.{length, getD, length-append}
 use Rattle.records.specs.Lists.{cat}
-use Rattle.report.specs.Listing.{headLine, rowOf, listingOf}
-use Rattle.report.specs.Pieces.{put-same, put-then, put-as, fits-rest, listing-parts}
-use Rattle.report.proofs.text.put_listing.Statement.{statement}
-use Rattle.report.proofs.text.put_listing.Tie as tie
+use Rattle.text.specs.Listing.{headLine, rowOf, listingOf}
+use Rattle.text.specs.Pieces.{put-same, put-then, put-as, fits-rest, listing-parts}
+use Rattle.text.proofs.put_listing.Statement.{statement}
+use Rattle.text.proofs.put_listing.Tie as tie
 
 -- the places that the needs look back to
 abbrev start : tie.After-u16-at → tie.Start

@@ -1,12 +1,12 @@
--- `report::text::put_word`: the bytes of the word before i are stored. Assumes nothing.
+-- `text::put_word`: the bytes of the word before i are stored. Assumes nothing.
 use Prim.Native.Nat.{_+_, _-_, _≤_}
 use native.Mathlib.Omega.{arith}
 use lib.ListN.{length, getD}
 use Rattle.records.specs.Lists.{tab}
-use Rattle.report.specs.Promises.{Put}
-use Rattle.report.specs.Pieces.{put-same, word-none, word-more, word-all}
-use Rattle.report.proofs.text.put_word.Statement.{statement}
-use Rattle.report.proofs.text.put_word.Tie as tie
+use Rattle.text.specs.Put.{Put}
+use Rattle.text.specs.Pieces.{put-same, word-none, word-more, word-all}
+use Rattle.text.proofs.put_word.Statement.{statement}
+use Rattle.text.proofs.put_word.Tie as tie
 
 abbrev Inv-loop : tie.InvT-loop
 Inv-loop text₀ at word i₀ text i = (i ≤ length word) × Put text₀ at (tab i (λ j. getD word j 0)) (at + i) text

@@ -1,12 +1,12 @@
--- `report::text::put_entry`: four pieces, one after the other. Assumes nothing.
+-- `text::put_entry`: four pieces, one after the other. Assumes nothing.
 use mathlib.Core.List.{_∷_, _++_}
 use Prim.Native.Nat.{_+_, _≤_}
 use native.Mathlib.Omega.{arith}
 use lib.ListN.{length, length-append}
-use Rattle.report.specs.Listing.{decimal, entryText}
-use Rattle.report.specs.Pieces.{put-same, put-then, fits-rest}
-use Rattle.report.proofs.text.put_entry.Statement.{statement}
-use Rattle.report.proofs.text.put_entry.Tie as tie
+use Rattle.text.specs.Listing.{decimal, entryText}
+use Rattle.text.specs.Pieces.{put-same, put-then, fits-rest}
+use Rattle.text.proofs.put_entry.Statement.{statement}
+use Rattle.text.proofs.put_entry.Tie as tie
 
 -- the places that the needs look back to
 abbrev start : tie.After-put-byte → tie.Start

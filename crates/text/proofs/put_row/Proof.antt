@@ -1,13 +1,13 @@
--- `report::text::put_row`: four pieces, one after the other. Assumes nothing.
+-- `text::put_row`: four pieces, one after the other. Assumes nothing.
 use mathlib.Core.List.{List, _∷_, _++_}
 use Prim.Native.Nat.{ℕ, _+_, _^_, _≤_}
 use native.Mathlib.Omega.{arith}
 use lib.ListN.{length, length-append}
 use Rattle.records.specs.Lists.{cat}
-use Rattle.report.specs.Listing.{decimal, lineEnd, rowText, entryOf, rowOf}
-use Rattle.report.specs.Pieces.{put-same, put-then, fits-rest}
-use Rattle.report.proofs.text.put_row.Statement.{statement}
-use Rattle.report.proofs.text.put_row.Tie as tie
+use Rattle.text.specs.Listing.{decimal, lineEnd, rowText, entryOf, rowOf}
+use Rattle.text.specs.Pieces.{put-same, put-then, fits-rest}
+use Rattle.text.proofs.put_row.Statement.{statement}
+use Rattle.text.proofs.put_row.Tie as tie
 
 -- the places that the needs look back to
 abbrev start : tie.After-put-number → tie.Start

@@ -9,8 +9,8 @@ use lib.Seq.{sets, length-sets}
 use Rattle.records.specs.Lists.{tab, length-tab, tab-self, cat, cat-none, cat-more, cat-at, sets-append, sets-more}
 use Rattle.records.specs.Numbers.{u16At}
 use Rattle.records.specs.Layout.{entryAt}
-use Rattle.report.specs.Listing.{headLine, entryText, listing, outputIn, nextIn, entryOf, rowOf, listingOf}
-use Rattle.report.specs.Promises.{Put}
+use Rattle.text.specs.Listing.{headLine, entryText, listing, outputIn, nextIn, entryOf, rowOf, listingOf}
+use Rattle.text.specs.Put.{Put}
 
 pub put-same : {before : List ℕ} {at : ℕ} {words : List ℕ} {place : ℕ} {after : List ℕ} → Put before at words place after
     → length after ≡ length before

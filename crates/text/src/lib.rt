@@ -8,8 +8,8 @@ ghost use Prim.Native.Nat.{_+_, _^_, _≤_, _<_};
 ghost use lib.ListN.{length, getD};
 ghost use Rattle.records.specs.Lists.{cat};
 ghost use Rattle.records.specs.Numbers.{u16At};
-ghost use Rattle.report.specs.Listing.{decimal, labelled, headLine, entryText, entryOf, rowOf, listingOf};
-ghost use Rattle.report.specs.Promises.{Put, Filled};
+ghost use Rattle.text.specs.Listing.{decimal, labelled, headLine, entryText, entryOf, rowOf, listingOf};
+ghost use Rattle.text.specs.Put.{Put, Filled};
 
 // One byte.
 pub fn put_byte(text: &mut [u8], at: usize, byte: u8) -> usize

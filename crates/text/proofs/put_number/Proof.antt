@@ -1,9 +1,9 @@
--- `report::text::put_number`: one, two or three digits. Assumes nothing.
+-- `text::put_number`: one, two or three digits. Assumes nothing.
 use native.Mathlib.Omega.{arith}
-use Rattle.report.specs.Digits.{digits-one, digits-two, digits-three, one-digit, two-digits, three-digits}
-use Rattle.report.specs.Pieces.{put-same, put-then, put-as}
-use Rattle.report.proofs.text.put_number.Statement.{statement}
-use Rattle.report.proofs.text.put_number.Tie as tie
+use Rattle.text.specs.Digits.{digits-one, digits-two, digits-three, one-digit, two-digits, three-digits}
+use Rattle.text.specs.Pieces.{put-same, put-then, put-as}
+use Rattle.text.proofs.put_number.Statement.{statement}
+use Rattle.text.proofs.put_number.Tie as tie
 
 -- the places that the needs look back to
 abbrev start : tie.Else1 → tie.Start
