@@ -111,7 +111,7 @@ impl Board {
     }
 
     // Whether the board is loaded with every field in its range; any other board counts as empty.
-    pub fn is_live(self) -> bool
+    fn is_live(self) -> bool
         ensures { λ r. ⌜ r ≡ live self ⌝ }
     {
         if self.loaded {
