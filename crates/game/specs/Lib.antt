@@ -18,6 +18,8 @@ pub mod Pigeonhole
 pub mod Numbering
 pub mod Reachable
 pub mod Naming
+pub mod FirstMet
+pub mod OnlyNumbering
 -- the run book, boards and guards
 pub mod Book
 pub mod Answers
