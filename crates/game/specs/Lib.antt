@@ -20,6 +20,7 @@ pub mod Reachable
 pub mod Naming
 pub mod FirstMet
 pub mod OnlyNumbering
+pub mod Explored
 -- the run book, boards and guards
 pub mod Book
 pub mod Answers

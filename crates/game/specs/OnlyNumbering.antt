@@ -79,7 +79,7 @@ module _
             let q = landed in (
               λ u. not-lower h (q .0) (w .states-before j l (q .0) u (q .1) (q .3)) (q .2),
               λ e u. not-lower h (q .0) (w .letters-before l (q .0) u (q .1)
-              (subst (λ (z : ℕ). Leads (getD K z start) l (getD K (q .0) start)) e (q .3))) (q .2),
+                  (subst (λ (z : ℕ). Leads (getD K z start) l (getD K (q .0) start)) e (q .3))) (q .2),
             )
 
     -- the state k is the same in both, where those before it are
