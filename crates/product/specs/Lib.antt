@@ -9,3 +9,4 @@ pub mod Tuples
 pub mod States
 pub mod Numbered
 pub mod NumberedLaws
+pub mod Ordered
