@@ -17,3 +17,4 @@ pub mod Facts
 pub mod Written
 pub mod Complete
 pub mod Laws
+pub mod Most

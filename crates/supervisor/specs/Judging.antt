@@ -11,13 +11,15 @@ use lib.Dec.{eqb}
 use lib.ListN.{length}
 use lib.Seq.{sets}
 use borrow.Author.Tests.{lt-ltb, le-ltb, le-leb, lt-leb, ne-eqb}
-use Rattle.records.specs.Tests.{by-test}
+use Rattle.records.specs.Tests.{by-test, both-ways}
+use Rattle.records.specs.Lists.{sets-front}
 use Rattle.records.specs.Limits.{maxStates}
 use Rattle.sheet.specs.Decoded.{Decoded, SheetOk, encode}
 use Rattle.sheet.specs.Layout.{groundNumber, verdictNumber, some-number}
 use Rattle.sheet.specs.Where.{decoded}
 use Rattle.sheet.specs.Reader.{reading}
 use Rattle.sheet.specs.Refusals.{sheetNumber, firstNumber}
+use Rattle.sheet.specs.Most.{number-most}
 use Rattle.sheet.specs.Promises.{Reads}
 use Rattle.sheet.specs.declared.layout.Refusal.{Refusal}
 use Rattle.sheet.specs.declared.layout.Refusal.the-variants as ground
@@ -25,10 +27,10 @@ use Rattle.sheet.specs.declared.layout.Verdict.the-variants as verdict
 use Rattle.sheet.specs.declared.layout.Reading.{Reading}
 use Rattle.product.specs.Numbered.{stateCount}
 use Rattle.rounds.specs.Rounds.{isIn}
-use Rattle.supervisor.specs.Meaning.{Accepted}
+use Rattle.supervisor.specs.Meaning.{TooMany, IsSheet, Accepted}
 use Rattle.supervisor.specs.Table.{droppedOf}
 use Rattle.supervisor.specs.Grounds.{too-many-iff, start-in, start-out}
-use Rattle.supervisor.specs.Making.{sheetOf, madeNumber, tableNumber, makingNumber, Judges, Answers, Makes}
+use Rattle.supervisor.specs.Making.{sheetOf, madeNumber, tableNumber, makingNumber, Judges, Answers, Written, Unwritten, Makes}
 use Rattle.supervisor.specs.declared.make.Made.{Made}
 use Rattle.supervisor.specs.declared.make.Made.the-variants.{Table, Refused}
 
@@ -53,44 +55,22 @@ module _ (d : Decoded) (size room : ℕ) where
     unfolding tableNumber
     number-none e h = rw (le-ltb maxStates (stateCount d) fits, e, le-leb size room h)
 
-  -- 7 says that there are too many states
-  seven-says : tableNumber d size room ≡ 7 → maxStates < stateCount d
-  seven-says e =
+  -- there is no other number, and each says what it was given for
+  number-cases {ℓ} : {X : Type ℓ} → (maxStates < stateCount d → tableNumber d size room ≡ 7 → X)
+      → (stateCount d ≤ maxStates → isIn (droppedOf d) 0 ≡ false → tableNumber d size room ≡ 8 → X)
+      → (stateCount d ≤ maxStates → isIn (droppedOf d) 0 ≡ true → room < size → tableNumber d size room ≡ 9 → X)
+      → (stateCount d ≤ maxStates → isIn (droppedOf d) 0 ≡ true → size ≤ room → tableNumber d size room ≡ 0 → X) → X
+  number-cases many lost short none =
       elim (decLt maxStates (stateCount d)) [
-        | yes h ↦ h
-        | no h ↦
-            let fits : stateCount d ≤ maxStates = omega arith in
-            absurd (by-test (isIn (droppedOf d) 0)
-            (λ y. elim (decLt room size) [
-              | yes k ↦ omega (arith, number-short fits y k)
-              | no k ↦ omega (arith, number-none fits y (omega arith))
-            ])
-            (λ y. omega (arith, number-lost fits y)))
-      ]
-
-  -- 8, where they fit, that the start is dropped
-  eight-says : stateCount d ≤ maxStates → tableNumber d size room ≡ 8 → isIn (droppedOf d) 0 ≡ false
-  eight-says fits e =
-      by-test (isIn (droppedOf d) 0)
-      (λ y. absurd (elim (decLt room size) [
-        | yes k ↦ omega (arith, number-short fits y k)
-        | no k ↦ omega (arith, number-none fits y (omega arith))
-      ]))
-      (λ y. y)
-
-  -- and 0 that a table is made
-  none-says : tableNumber d size room ≡ 0 → (stateCount d ≤ maxStates) × (isIn (droppedOf d) 0 ≡ true) × (size ≤ room)
-  none-says e =
-      elim (decLt maxStates (stateCount d)) [
-        | yes h ↦ absurd (omega (arith, number-many h))
+        | yes h ↦ many h (number-many h)
         | no h ↦
             let fits : stateCount d ≤ maxStates = omega arith in
             by-test (isIn (droppedOf d) 0)
             (λ y. elim (decLt room size) [
-              | yes k ↦ absurd (omega (arith, number-short fits y k))
-              | no k ↦ (fits, y, omega arith)
+              | yes k ↦ short fits y k (number-short fits y k)
+              | no k ↦ let long : size ≤ room = omega arith in none fits y long (number-none fits y long)
             ])
-            (λ y. absurd (omega (arith, number-lost fits y)))
+            (λ y. lost fits y (number-lost fits y))
       ]
 
 -- ---- judging a sheet in bounds
@@ -160,80 +140,137 @@ module _ (table : Decoded → List ℕ) (stateCounts : Decoded → ℕ) (work : 
 abbrev pub Only : List ℕ → Type 0
 Only s = (d : Decoded) → SheetOk d → encode d ≡ s → decoded s (reading s .sheet) ≡ d
 
--- no refusal: work and sheet are in order, and the table is not refused either
-making-says : (table : Decoded → List ℕ) (work : Bool) (s : List ℕ) (room : ℕ) → makingNumber table work s room ≡ 0
-    → (work ≡ true) × (sheetNumber s ≡ 0) × (tableNumber (sheetOf s) (length (table (sheetOf s))) room ≡ 0)
-unfolding makingNumber
-making-says table false s room e = absurd (omega arith)
-making-says table true s room e = go (sheetNumber s) refl e
-  where
-    go : (n : ℕ) → sheetNumber s ≡ n → firstNumber n (tableNumber (sheetOf s) (length (table (sheetOf s))) room) ≡ 0
-        → (true ≡ true) × (sheetNumber s ≡ 0) × (tableNumber (sheetOf s) (length (table (sheetOf s))) room ≡ 0)
-    go zero q f = (refl, q, f)
-    go (suc n) q f = absurd (omega arith)
-
 module _
     (table : Decoded → List ℕ) (stateCounts : Decoded → ℕ) {work : Bool} {s before : List ℕ} {r : Made} {after : List ℕ}
     (answers : Answers table stateCounts work s before r after)
   where
-    -- where none of 10 and 1 to 6 applies, the number is that of the table
-    judged : work ≡ true → sheetNumber s ≡ 0
-        → madeNumber r ≡ tableNumber (sheetOf s) (length (table (sheetOf s))) (length before)
+    -- the number is 10, the sheet's or its table's
+    answer-cases {ℓ} : {X : Type ℓ} → (work ≡ false → madeNumber r ≡ 10 → X)
+        → (work ≡ true → (sheetNumber s ≡ 0 → ⊥) → madeNumber r ≡ sheetNumber s → X)
+        → (work ≡ true → sheetNumber s ≡ 0
+        → madeNumber r ≡ tableNumber (sheetOf s) (length (table (sheetOf s))) (length before) → X) → X
     unfolding makingNumber
-    judged w e = answers .number ∙ rw (w, e)
+    answer-cases {X = X} short bad judged =
+        by-test work (λ w. go w (sheetNumber s) refl (answers .number ∙ rw w)) (λ w. short w (answers .number ∙ rw w))
+      where
+        go : work ≡ true → (n : ℕ) → sheetNumber s ≡ n
+            → madeNumber r ≡ firstNumber n (tableNumber (sheetOf s) (length (table (sheetOf s))) (length before)) → X
+        go w zero e q = judged w e q
+        go w (suc n) e q = bad w (λ z. omega arith) (q ∙ sym e)
 
     -- a table was made: everything is in order
     pub made-says : madeNumber r ≡ 0
         → (work ≡ true) × (sheetNumber s ≡ 0) × (stateCount (sheetOf s) ≤ maxStates) × (isIn (droppedOf (sheetOf s)) 0 ≡ true)
         × (length (table (sheetOf s)) ≤ length before)
     made-says e =
-        let x = making-says table work s (length before) (sym (answers .number) ∙ e) in
-        let y = none-says (sheetOf s) (length (table (sheetOf s))) (length before) (x .2) in
-        (x .0, x .1, y .0, y .1, y .2)
+        answer-cases (λ w q. absurd (omega arith)) (λ w bad q. absurd (bad (omega arith))) (λ w z q.
+        number-cases (sheetOf s) (length (table (sheetOf s))) (length before)
+        (λ h y. absurd (omega arith)) (λ f i y. absurd (omega arith)) (λ f i l y. absurd (omega arith))
+        (λ f i l y. (w, z, f, i, l)))
 
-    -- the promise of every maker
-    pub makes : Reads s (reading s) → Only s → Makes table stateCounts work s before r after
-    unfolding sheetOf
-    makes reads only =
-        record {
-          answers = answers;
-          sheet = only;
-          too-many = λ w e.
-              let x = too-many-iff (sheetOf s) in (
-                λ q. x .1 (seven-says (sheetOf s) _ _ (sym (judged w e) ∙ q)),
-                λ m. judged w e ∙ number-many (sheetOf s) _ _ (x .0 m),
-              );
-          unrealizable = λ w e no7.
-              let fits : stateCount (sheetOf s) ≤ maxStates = few (λ h. no7 (judged w e ∙ number-many (sheetOf s) _ _ h)) in
-              let x = start-out (sheetOf s) fits in (
-                λ q. x .0 (eight-says (sheetOf s) _ _ fits (sym (judged w e) ∙ q)),
-                λ u. judged w e ∙ number-lost (sheetOf s) _ _ fits (x .1 u),
-              );
-          exactly = (
-            λ e.
-                let x = made-says e in
-                let v : verdictNumber (reading s .verdict) ≡ 0 = reads .number ∙ x .1 in (
-                  sheetOf s,
-                  record {
-                    in-bounds = reads .fits v .ok;
-                    bytes = reads .same v;
-                    few = λ m. omega (arith, too-many-iff (sheetOf s) .0 m, x .2);
-                    realizable = start-in (sheetOf s) (x .2) .0 (x .3);
-                  },
-                  x .0,
-                  x .4,
-                ),
-            λ y. back (y .0) (y .1) (y .2) (y .3),
-          );
-        }
-      where
-        few : (maxStates < stateCount (sheetOf s) → ⊥) → stateCount (sheetOf s) ≤ maxStates
-        few h = elim (decLt maxStates (stateCount (sheetOf s))) [ yes k ↦ absurd (h k) | no k ↦ omega arith ]
+    module _ (reads : Reads s (reading s)) (only : Only s) where
+      -- the sheet of the bytes is the one that the reader finds
+      same : (d : Decoded) → IsSheet s d → sheetOf s ≡ d
+      unfolding sheetOf
+      same d x = only d (x .in-bounds) (x .bytes)
 
-        back : (d : Decoded) → Accepted s d → work ≡ true → length (table d) ≤ length before → madeNumber r ≡ 0
-        back d a w h =
-            let same : sheetOf s ≡ d = only d (a .in-bounds) (a .bytes) in
-            let e : sheetNumber s ≡ 0 = sym (reads .number) ∙ reads .exactly .1 (d, a .in-bounds, a .bytes) in
-            let fits : stateCount (sheetOf s) ≤ maxStates = few (λ k. a .few (rw same at (too-many-iff (sheetOf s) .1 k))) in
-            judged w e
-            ∙ number-none (sheetOf s) _ _ fits (start-in (sheetOf s) fits .1 (rw same (a .realizable))) (rw same h)
+      read-none : (d : Decoded) → IsSheet s d → sheetNumber s ≡ 0
+      read-none d x = sym (reads .number) ∙ reads .exactly .1 (d, x .in-bounds, x .bytes)
+
+      found : sheetNumber s ≡ 0 → IsSheet s (sheetOf s)
+      unfolding sheetOf
+      found e =
+          let v : verdictNumber (reading s .verdict) ≡ 0 = reads .number ∙ e in
+          record { in-bounds = reads .fits v .ok; bytes = reads .same v }
+
+      -- where the bytes are a sheet's, the number is that of its table
+      judged : work ≡ true → (d : Decoded) → IsSheet s d → madeNumber r ≡ tableNumber d (length (table d)) (length before)
+      judged w d x =
+          answer-cases (λ v q. both-ways w v) (λ v bad q. absurd (bad (read-none d x)))
+          (λ v z q. subst (λ (y : Decoded). madeNumber r ≡ tableNumber y (length (table y)) (length before)) (same d x) q)
+
+      -- and where they are not, the sheet's
+      bad : work ≡ true → (((d : Decoded) × IsSheet s d) → ⊥) → (madeNumber r ≡ sheetNumber s) × (sheetNumber s ≡ 0 → ⊥)
+      bad w none =
+          answer-cases (λ v q. both-ways w v) (λ v y q. (q, y)) (λ v z q. absurd (none (sheetOf s, found z)))
+
+      fit : (d : Decoded) → (TooMany d → ⊥) → stateCount d ≤ maxStates
+      fit d few =
+          elim (decLt maxStates (stateCount d)) [ yes k ↦ absurd (few (too-many-iff d .1 k)) | no k ↦ omega arith ]
+
+      -- the promise of every maker
+      pub makes : Makes table stateCounts work s before r after
+      makes =
+          record {
+            answers = answers;
+            in-bounds = (λ e. (sheetOf s, found e), λ y. read-none (y .0) (y .1));
+            short-work = (
+              λ e. answer-cases (λ w q. w) (λ w y q. absurd (omega (arith, number-most s)))
+                  (λ w z q. absurd (number-cases (sheetOf s) (length (table (sheetOf s))) (length before)
+                  (λ h y. omega arith) (λ f i y. omega arith) (λ f i l y. omega arith) (λ f i l y. omega arith))),
+              λ w. answer-cases (λ v q. q) (λ v y q. both-ways v w) (λ v z q. both-ways v w),
+            );
+            bad-sheet = λ w. (
+              λ e y.
+                  number-cases (y .0) (length (table (y .0))) (length before)
+                  (λ h q. omega (arith, e .0, e .1, judged w (y .0) (y .1))) (λ f i q. omega (arith, e .0, e .1, judged w (y .0) (y .1)))
+                  (λ f i l q. omega (arith, e .0, e .1, judged w (y .0) (y .1))) (λ f i l q. omega (arith, e .0, e .1, judged w (y .0) (y .1))),
+              λ none. let x = bad w none in (some (sheetNumber s) (x .1) (x .0), omega (arith, x .0, number-most s)),
+            );
+            ground = λ w none. bad w none .0;
+            too-many = λ w d x. (
+              λ q. number-cases d (length (table d)) (length before) (λ h y. too-many-iff d .1 h)
+                  (λ f i y. absurd (omega (arith, judged w d x))) (λ f i l y. absurd (omega (arith, judged w d x)))
+                  (λ f i l y. absurd (omega (arith, judged w d x))),
+              λ m. judged w d x ∙ number-many d _ _ (too-many-iff d .0 m),
+            );
+            unrealizable = λ w d x few.
+                let fits : stateCount d ≤ maxStates = fit d few in (
+                  λ q. number-cases d (length (table d)) (length before) (λ h y. absurd (omega arith))
+                      (λ f i y. start-out d fits .0 i) (λ f i l y. absurd (omega (arith, judged w d x)))
+                      (λ f i l y. absurd (omega (arith, judged w d x))),
+                  λ u. judged w d x ∙ number-lost d _ _ fits (start-out d fits .1 u),
+                );
+            short-result = λ w d a.
+                let fits : stateCount d ≤ maxStates = fit d (a .few) in
+                let kept : isIn (droppedOf d) 0 ≡ true = start-in d fits .1 (a .realizable) in (
+                  λ q. number-cases d (length (table d)) (length before) (λ h y. absurd (omega arith))
+                      (λ f i y. both-ways kept i) (λ f i l y. l) (λ f i l y. absurd (omega (arith, judged w d (a .sheet)))),
+                  λ l. judged w d (a .sheet) ∙ number-short d _ _ fits kept l,
+                );
+            exactly = (
+              λ e. let x = made-says e in (sheetOf s, accepted x, x .0, x .4),
+              λ y.
+                  let d : Decoded = y .0 in
+                  let fits : stateCount d ≤ maxStates = fit d (y .1 .few) in
+                  judged (y .2) d (y .1 .sheet) ∙ number-none d _ _ fits (start-in d fits .1 (y .1 .realizable)) (y .3),
+            );
+            written = λ e d x. subst (λ (y : Decoded). Written (table y) (stateCounts y) before r after) (same d x) (wrote e);
+            unwritten = unwrote;
+          }
+        where
+          some : (n : ℕ) → (n ≡ 0 → ⊥) → madeNumber r ≡ n → 1 ≤ madeNumber r
+          some zero y q = absurd (y refl)
+          some (suc n) y q = omega arith
+
+          accepted : (work ≡ true) × (sheetNumber s ≡ 0) × (stateCount (sheetOf s) ≤ maxStates) × (isIn (droppedOf (sheetOf s)) 0 ≡ true)
+              × (length (table (sheetOf s)) ≤ length before) → Accepted s (sheetOf s)
+          accepted x =
+              record {
+                sheet = found (x .1);
+                few = λ m. omega (arith, too-many-iff (sheetOf s) .0 m, x .2);
+                realizable = start-in (sheetOf s) (x .2) .0 (x .3);
+              }
+
+          wrote : madeNumber r ≡ 0 → Written (table (sheetOf s)) (stateCounts (sheetOf s)) before r after
+          wrote e =
+              record {
+                size = answers .size ∙ rw e;
+                count = answers .states ∙ rw e;
+                bytes = answers .bytes ∙ rw e (sets-front before (table (sheetOf s)) (made-says e .4));
+              }
+
+          unwrote : (madeNumber r ≡ 0 → ⊥) → Unwritten before r after
+          unwrote e =
+              let off : eqb (madeNumber r) 0 ≡ false = ne-eqb (madeNumber r) 0 e in
+              record { size = answers .size ∙ rw off; count = answers .states ∙ rw off; bytes = answers .bytes ∙ rw off }

@@ -40,10 +40,14 @@ pub record TooMany (d : Decoded) : Type 0 where
 abbrev pub Unrealizable : Decoded → Type 0
 Unrealizable d = Lost d (firstTuple d)
 
--- an accepted sheet: none of 1 to 8 applies to its bytes
-pub record Accepted (s : List ℕ) (d : Decoded) : Type 0 where
+-- the bytes s are the sheet d, which is in bounds: none of 1 to 6 applies
+pub record IsSheet (s : List ℕ) (d : Decoded) : Type 0 where
   pub in-bounds : SheetOk d
   pub bytes : encode d ≡ s
+
+-- and an accepted one: none of 7 and 8 applies either
+pub record Accepted (s : List ℕ) (d : Decoded) : Type 0 where
+  pub sheet : IsSheet s d
   pub few : TooMany d → ⊥
   pub realizable : Kept d (firstTuple d)
 
