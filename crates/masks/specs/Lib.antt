@@ -1,2 +1,3 @@
--- The rows of a supervisor table.
+-- The bytes of a supervisor table: their format, and the rows that the rounds give.
+pub mod Layout
 pub mod Rows

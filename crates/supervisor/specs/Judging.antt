@@ -8,8 +8,8 @@ use Prim.Native.Nat.{ℕ, zero, suc, _≤_, _<_}
 use native.Mathlib.Decide.{decLt}
 use native.Mathlib.Omega.{arith}
 use lib.Dec.{eqb}
-use lib.ListN.{length}
-use lib.Seq.{sets}
+use lib.ListN.{length, take, drop}
+use lib.Seq.{sets, take-append-seam}
 use borrow.Author.Tests.{lt-ltb, le-ltb, le-leb, lt-leb, ne-eqb}
 use Rattle.records.specs.Tests.{by-test, both-ways}
 use Rattle.records.specs.Lists.{sets-front}
@@ -30,7 +30,7 @@ use Rattle.rounds.specs.Rounds.{isIn}
 use Rattle.supervisor.specs.Meaning.{TooMany, IsSheet, Accepted}
 use Rattle.supervisor.specs.Table.{droppedOf}
 use Rattle.supervisor.specs.Grounds.{too-many-iff, start-in, start-out}
-use Rattle.supervisor.specs.Making.{sheetOf, madeNumber, tableNumber, makingNumber, Judges, Answers, Written, Unwritten, Makes}
+use Rattle.supervisor.specs.Making.{sheetOf, madeNumber, madeLength, tableNumber, makingNumber, Judges, Answers, Written, Unwritten, Makes}
 use Rattle.supervisor.specs.declared.make.Made.{Made}
 use Rattle.supervisor.specs.declared.make.Made.the-variants.{Table, Refused}
 
@@ -136,6 +136,18 @@ module _ (table : Decoded → List ℕ) (stateCounts : Decoded → ℕ) (work : 
 
 -- ---- what the refusals mean
 
+-- states that are not too many fit
+fit : (d : Decoded) → (TooMany d → ⊥) → stateCount d ≤ maxStates
+fit d few = elim (decLt maxStates (stateCount d)) [ yes k ↦ absurd (few (too-many-iff d .1 k)) | no k ↦ omega arith ]
+
+pub accepted-fits : {s : List ℕ} {d : Decoded} → Accepted s d → stateCount d ≤ maxStates
+accepted-fits {d = d} a = fit d (a .few)
+
+-- what was written is what the result begins with
+pub written-front : {table before after : List ℕ} {states : ℕ} {r : Made} → Written table states before r after
+    → take (madeLength r) after ≡ table
+written-front {table} {before} w = rw (w .size, w .bytes) (take-append-seam table (drop (length table) before))
+
 -- no other sheet in bounds has these bytes
 abbrev pub Only : List ℕ → Type 0
 Only s = (d : Decoded) → SheetOk d → encode d ≡ s → decoded s (reading s .sheet) ≡ d
@@ -193,10 +205,6 @@ module _
       bad : work ≡ true → (((d : Decoded) × IsSheet s d) → ⊥) → (madeNumber r ≡ sheetNumber s) × (sheetNumber s ≡ 0 → ⊥)
       bad w none =
           answer-cases (λ v q. both-ways w v) (λ v y q. (q, y)) (λ v z q. absurd (none (sheetOf s, found z)))
-
-      fit : (d : Decoded) → (TooMany d → ⊥) → stateCount d ≤ maxStates
-      fit d few =
-          elim (decLt maxStates (stateCount d)) [ yes k ↦ absurd (few (too-many-iff d .1 k)) | no k ↦ omega arith ]
 
       -- the promise of every maker
       pub makes : Makes table stateCounts work s before r after

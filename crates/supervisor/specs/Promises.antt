@@ -4,17 +4,19 @@ use mathlib.Core.Path.{_≡_}
 use mathlib.Core.Logic.{_↔_}
 use mathlib.Core.Bool.{Bool, _&&_}
 use mathlib.Core.List.{List}
-use Prim.Native.Nat.{ℕ, _+_, _*_, _/_, _%_, _^_, _≤_, _<_}
+use Prim.Native.Nat.{ℕ, _+_, _*_, _^_, _≤_, _<_}
 use lib.Dec.{leb}
-use lib.ListN.{take}
-use Rattle.records.specs.Numbers.{u16At}
-use Rattle.sheet.specs.Decoded.{Decoded}
-use Rattle.product.specs.Step.{inputsOf}
-use Rattle.product.specs.States.{Reached}
+use lib.ListN.{length, getD, take}
+use Rattle.records.specs.Bits.{bitAt}
+use Rattle.sheet.specs.Decoded.{Decoded, inputLines}
+use Rattle.product.specs.Step.{inputsOf, advance, firstTuple}
+use Rattle.product.specs.States.{ProductStates}
 use Rattle.product.specs.Numbered.{stateCount}
-use Rattle.supervisor.specs.Meaning.{Kept, Lost, Allowed, MaximallyPermissive}
-use Rattle.supervisor.specs.Table.{supervisorTable, keptAt, maskAt}
-use Rattle.supervisor.specs.Making.{sheetOf, madeNumber, madeLength, Makes}
+use Rattle.game.specs.History.{Step, reached, Permitted}
+use Rattle.masks.specs.Layout.{maskTable}
+use Rattle.supervisor.specs.Meaning.{Kept, Lost, Allowed, Accepted, AllowedAfter, MaximallyPermissive}
+use Rattle.supervisor.specs.Table.{supervisorTable}
+use Rattle.supervisor.specs.Making.{madeNumber, madeLength, madeStates, Makes}
 use Rattle.supervisor.specs.declared.make.Made.{Made}
 
 -- ---- work memory: how long each slice must be (docs/MEMORY.md says what it holds)
@@ -33,19 +35,30 @@ workOk tuples cells dropped = leb tuplesLength tuples && (leb cellsLength cells 
 
 -- ---- demand 2, of a table's bytes
 
-pub record Means (d : Decoded) (table : List ℕ) : Type 0 where
-  -- every reachable tuple has a number of its own below the head's count, and every number is some tuple's
-  pub number : List ℕ → ℕ
-  pub low : (t : List ℕ) → Reached d t → number t < u16At table 7
-  pub once : (t u : List ℕ) → Reached d t → Reached d u → number t ≡ number u → t ≡ u
-  pub onto : (k : ℕ) → k < u16At table 7 → (t : List ℕ) × Reached d t × (number t ≡ k)
-  -- its record says kept exactly if every n is survived from it, and not kept exactly if some n is not
-  pub kept : (t : List ℕ) → Reached d t → (keptAt table (inputsOf d) (number t) ≡ 1) ↔ Kept d t
-  pub lost : (t : List ℕ) → Reached d t → (keptAt table (inputsOf d) (number t) ≡ 0) ↔ Lost d t
+-- the table has n records, one for each product state in the order of their numbers
+pub record Means (d : Decoded) (n : ℕ) (table : List ℕ) : Type 0 where
+  -- the product states, as first met
+  pub tuples : List (List ℕ)
+  pub count : length tuples ≡ n
+  pub numbered : ProductStates d tuples
+  -- the bytes: record k says whether state k is kept, and has its mask for each input
+  pub kept : ℕ → ℕ
+  pub mask : ℕ → ℕ → ℕ
+  pub bytes : table ≡ maskTable (d .mode) (inputLines d) (d .outputs) n kept mask
+  pub size : length table ≡ 9 + n * (5 + inputsOf d)
+  -- 1 exactly if every number of inputs is survived from it, else 0
+  pub flag : (k : ℕ) → k < n → kept k ≤ 1
+  pub kept-is : (k : ℕ) → k < n → (kept k ≡ 1) ↔ Kept d (getD tuples k (firstTuple d))
+  pub lost-is : (k : ℕ) → k < n → (kept k ≡ 0) ↔ Lost d (getD tuples k (firstTuple d))
   -- in a kept state, bit o of the mask of input i is 1 exactly if o is allowed; in any other the mask is 0
-  pub mask : (t : List ℕ) → Reached d t → Kept d t → (i o : ℕ) → i < inputsOf d → o < 8
-      → (maskAt table (inputsOf d) (number t) i / 2 ^ o % 2 ≡ 1) ↔ Allowed d t i o
-  pub none : (t : List ℕ) → Reached d t → Lost d t → (i : ℕ) → i < inputsOf d → maskAt table (inputsOf d) (number t) i ≡ 0
+  pub mask-byte : (k i : ℕ) → k < n → i < inputsOf d → mask k i < 2 ^ 8
+  pub mask-is : (k : ℕ) → k < n → Kept d (getD tuples k (firstTuple d)) → (i o : ℕ) → i < inputsOf d → o < 8
+      → (bitAt (mask k i) o ≡ 1) ↔ Allowed d (getD tuples k (firstTuple d)) i o
+  pub mask-none : (k : ℕ) → k < n → Lost d (getD tuples k (firstTuple d)) → (i : ℕ) → i < inputsOf d → mask k i ≡ 0
+  -- after every history of allowed steps, at the state reached, bit o of the mask of input i is 1 exactly if o is allowed
+  pub after-history : (h : List Step) → Permitted (inputsOf d) (AllowedAfter d) h
+      → (k : ℕ) × (k < n) × (getD tuples k (firstTuple d) ≡ reached (List ℕ) (advance d) (firstTuple d) h)
+      × ((i o : ℕ) → i < inputsOf d → o < 8 → (bitAt (mask k i) o ≡ 1) ↔ AllowedAfter d h i o)
   -- the allowed outputs are those of the maximally permissive supervisor
   pub permissive : MaximallyPermissive d
 
@@ -53,6 +66,9 @@ pub record Means (d : Decoded) (table : List ℕ) : Type 0 where
 
 pub record MakesSupervisor (s before : List ℕ) (tuples cells dropped : ℕ) (r : Made) (after : List ℕ) : Type 0 where
   pub makes : Makes supervisorTable stateCount (workOk tuples cells dropped) s before r after
-  pub means : madeNumber r ≡ 0 → Means (sheetOf s) (take (madeLength r) after)
+  -- of the table of every accepted sheet, also where the result is too short for it
+  pub means : (d : Decoded) → Accepted s d → Means d (stateCount d) (supervisorTable d)
+  -- of the bytes that were written
+  pub written : madeNumber r ≡ 0 → (d : Decoded) → Accepted s d → Means d (madeStates r) (take (madeLength r) after)
   -- the bytes of work memory that the constants ask for
   pub work-bytes : tuplesLength + (2 * cellsLength + 2 * droppedLength) ≤ 65536

@@ -2,7 +2,6 @@
 -- Assumes nothing.
 use mathlib.Core.List.{List, [], _∷_, _++_}
 use Prim.Native.Nat.{ℕ, _+_, _*_, _/_, _%_}
-use lib.ListN.{length, getD}
 use Rattle.records.specs.Lists.{tab, cat}
 use Rattle.records.specs.Numbers.{zeros, u16Bytes}
 use Rattle.records.specs.Cursor.{header}
@@ -11,7 +10,7 @@ use Rattle.product.specs.Step.{inputsOf, outputsOf}
 use Rattle.product.specs.States.{lettersOf}
 use Rattle.product.specs.Numbered.{stateCount, cellOf}
 use Rattle.rounds.specs.Rounds.{settled}
-use Rattle.masks.specs.Rows.{tableRow, rowLength}
+use Rattle.masks.specs.Rows.{tableRow}
 
 -- the table of steps as one list, a row of letters for each product state
 unfoldable pub cellsOf : Decoded → List ℕ
@@ -36,11 +35,3 @@ tableOf d count cells dropped =
 -- the supervisor table of a sheet
 unfoldable pub supervisorTable : Decoded → List ℕ
 supervisorTable d = tableOf d (stateCount d) (cellsOf d) (droppedOf d)
-
--- ---- where the parts stand
-
-unfoldable pub keptAt : List ℕ → ℕ → ℕ → ℕ
-keptAt table inputs k = getD table (9 + k * rowLength inputs + 4) 0
-
-unfoldable pub maskAt : List ℕ → ℕ → ℕ → ℕ → ℕ
-maskAt table inputs k i = getD table (9 + k * rowLength inputs + 5 + i) 0

@@ -6,12 +6,12 @@ use mathlib.Core.List.{List, _∷_, _++_}
 use Prim.Native.Nat.{ℕ, _^_, _≤_, _<_}
 use native.Mathlib.Omega.{arith}
 use lib.Dec.{leb}
-use lib.ListN.{length, take}
-use lib.Seq.{sets, take-append-seam}
+use lib.ListN.{length}
+use lib.Seq.{sets}
 use borrow.Author.Tests.{le-leb, lt-leb}
 use Rattle.records.specs.Tests.{by-test}
 use Rattle.records.specs.Limits.{maxStates}
-use Rattle.records.specs.Lists.{cat, sets-append, sets-front}
+use Rattle.records.specs.Lists.{cat, sets-append}
 use Rattle.records.specs.Numbers.{Bytes, u16Bytes}
 use Rattle.records.specs.Cursor.{header}
 use Rattle.sheet.specs.Decoded.{Decoded}
@@ -26,13 +26,13 @@ use Rattle.product.specs.Numbered.{stateCount}
 use Rattle.masks.specs.Rows.{tableRow, tableLength}
 use Rattle.supervisor.specs.Table.{tableHead, tableOf, supervisorTable}
 use Rattle.supervisor.specs.Solve.{Solution}
-use Rattle.supervisor.specs.Making.{sheetOf, madeLength, Judges, Answers}
-use Rattle.supervisor.specs.Promises.{tuplesLength, cellsLength, droppedLength, workOk, MakesSupervisor}
+use Rattle.supervisor.specs.Meaning.{Accepted}
+use Rattle.supervisor.specs.Making.{Judges, Answers, Makes}
+use Rattle.supervisor.specs.Promises.{tuplesLength, cellsLength, droppedLength, workOk, Means, MakesSupervisor}
 use Rattle.supervisor.specs.Bytes.{length-table}
 use Rattle.supervisor.specs.Solving.{layout-inputs, layout-outputs, layout-head, solution-table}
 use Rattle.supervisor.specs.Demand.{means}
-use Rattle.supervisor.specs.Grounds.{start-in}
-use Rattle.supervisor.specs.Judging.{Only, judges-lost, judges-short, judges-made, made-says, makes}
+use Rattle.supervisor.specs.Judging.{Only, judges-lost, judges-short, judges-made, makes, accepted-fits, written-front}
 use Rattle.supervisor.specs.declared.make.Made.{Made}
 use Rattle.supervisor.specs.declared.make.Made.the-variants.{Table, Refused}
 
@@ -114,25 +114,25 @@ layout-made {s} {h} fits {n} {kept} {start} {tuples} {cells} {dropped} solution 
 
 -- ---- the promise
 
--- a table that fits is what the result begins with
-front : (before table : List ℕ) → length table ≤ length before → take (length table) (sets before 0 table) ≡ table
-front before table h = rw (sets-front before table h) (take-append-seam table _)
-
 -- the whole promise, from the answer by the model
 pub supervisor-makes : {s before : List ℕ} {r : Made} {after : List ℕ} (tuples cells dropped : ℕ)
     → Answers supervisorTable stateCount (workOk tuples cells dropped) s before r after
     → Reads s (reading s) → Only s → MakesSupervisor s before tuples cells dropped r after
 supervisor-makes {s} {before} {r} {after} tuples cells dropped answers read only =
     record {
-      makes = makes supervisorTable stateCount answers read only;
-      means = λ e.
-          let x = made-says supervisorTable stateCount answers e in
-          let size : madeLength r ≡ length (supervisorTable (sheetOf s)) = answers .size ∙ rw e in
-          let bytes : after ≡ sets before 0 (supervisorTable (sheetOf s)) = answers .bytes ∙ rw e in
-          rw (size, bytes, front before (supervisorTable (sheetOf s)) (x .4))
-          (means (sheetOf s) (x .2) (start-in (sheetOf s) (x .2) .0 (x .3)));
+      makes = all;
+      means = table-means;
+      written = λ e d a.
+          let w = all .written e d (a .sheet) in
+          rw (w .count, written-front w) (table-means d a);
       work-bytes = omega arith;
     }
+  where
+    all : Makes supervisorTable stateCount (workOk tuples cells dropped) s before r after
+    all = makes supervisorTable stateCount answers read only
+
+    table-means : (d : Decoded) → Accepted s d → Means d (stateCount d) (supervisorTable d)
+    table-means d a = means d (accepted-fits a) (a .sheet .in-bounds) (a .realizable)
 
 -- the same of any bytes, by the laws of the reader
 pub supervisor-promise : {s before : List ℕ} {r : Made} {after : List ℕ} (tuples cells dropped : ℕ) → Bytes s
