@@ -6,6 +6,7 @@ pub mod Promises
 pub mod Representing
 pub mod Running
 pub mod Demand
+pub mod Rows
 -- this maker's promise, and its work memory
 pub mod Written
 pub mod Lent

@@ -4,10 +4,11 @@
 use mathlib.Core.Path.{_≡_}
 use mathlib.Core.Bool.{Bool, false, cond, _&&_}
 use mathlib.Core.List.{List}
-use Prim.Native.Nat.{ℕ}
+use Prim.Native.Nat.{ℕ, _<_}
 use lib.Dec.{eqb}
 use lib.ListN.{length}
 use Rattle.records.specs.Limits.{maxSteps}
+use Rattle.game.specs.FirstMet.{FirstMet}
 use Rattle.game.specs.History.{Step}
 use Rattle.game.specs.Plans as plans
 use Rattle.game.specs.Book.{Call, load, step, rewind, unload, Answer, deviations, Lent}
@@ -28,6 +29,22 @@ use Rattle.board.specs.declared.Board.{Board}
 abbrev pub Move : Decoded → ℕ → List ℕ → ℕ → ℕ → Type 0
 Move d h t i o =
     plans.Move (List ℕ) (inputsOf d) (outputsOf d) (advance d) (Allowed d) (reward d) (Higher (d .literals)) h t i o
+
+-- the guard's states: the tuples that moves reach from the starts
+pub data Chosen (d : Decoded) (h : ℕ) : List ℕ → Type 0 where
+  begin : Chosen d h (firstTuple d)
+  onward : {t : List ℕ} (i o : ℕ) → Chosen d h t → i < inputsOf d → Move d h t i o → Chosen d h (advance d t i o)
+
+-- the move at the tuple t and the input i leads to u
+pub record MoveBy (d : Decoded) (h : ℕ) (t : List ℕ) (i : ℕ) (u : List ℕ) : Type 0 where
+  pub input-low : i < inputsOf d
+  pub output : ℕ
+  pub move : Move d h t i output
+  pub lands : advance d t i output ≡ u
+
+-- the list of the guard's states, each at its number: as first met, states in order, inputs ascending
+abbrev pub GuardStates : Decoded → ℕ → List (List ℕ) → Type 0
+GuardStates d h = FirstMet (List ℕ) (Chosen d h) (MoveBy d h) (firstTuple d)
 
 -- 1 where, in mode 1, the output is not what the input proposes, else 0
 unfoldable pub strays : Decoded → ℕ → ℕ → ℕ

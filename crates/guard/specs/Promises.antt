@@ -3,14 +3,17 @@
 use mathlib.Core.Path.{_≡_}
 use mathlib.Core.Bool.{Bool, _&&_}
 use mathlib.Core.List.{List}
-use Prim.Native.Nat.{ℕ, _+_, _*_, _≤_}
+use Prim.Native.Nat.{ℕ, _+_, _*_, _≤_, _<_}
 use lib.Dec.{leb}
-use lib.ListN.{take}
-use Rattle.sheet.specs.Decoded.{Decoded}
-use Rattle.supervisor.specs.Making.{sheetOf, madeNumber, madeLength, Makes}
+use lib.ListN.{length, getD, take}
+use Rattle.records.specs.Layout.{guardTable}
+use Rattle.sheet.specs.Decoded.{Decoded, inputLines}
+use Rattle.product.specs.Step.{inputsOf, advance, firstTuple}
+use Rattle.supervisor.specs.Meaning.{Accepted}
+use Rattle.supervisor.specs.Making.{madeNumber, madeLength, madeStates, Makes}
 use Rattle.supervisor.specs.Promises.{tuplesLength, cellsLength, droppedLength}
 use Rattle.supervisor.specs.declared.make.Made.{Made}
-use Rattle.guard.specs.Meaning.{Faithful}
+use Rattle.guard.specs.Meaning.{Move, GuardStates, Faithful}
 use Rattle.guard.specs.Table.{guardTableOf, guardCount}
 
 -- ---- work memory: how long each slice must be, beside those of the supervisor's maker
@@ -58,10 +61,36 @@ workOk w =
 abbrev pub guardStates : Decoded → ℕ
 guardStates d = guardCount d (d .horizon)
 
+-- ---- what the rows of a guard table are
+
+-- the table, over the horizon h, has n rows, one for each state of the guard in the order of their numbers
+pub record Rows (d : Decoded) (h n : ℕ) (table : List ℕ) : Type 0 where
+  -- the guard's states, as first met
+  pub tuples : List (List ℕ)
+  pub count : length tuples ≡ n
+  pub numbered : GuardStates d h tuples
+  -- the bytes: row k has an output and a next state for each input
+  pub output : ℕ → ℕ → ℕ
+  pub next : ℕ → ℕ → ℕ
+  pub bytes : table ≡ guardTable (d .mode) (inputLines d) (d .outputs) h n output next
+  pub size : length table ≡ 10 + n * (4 + 2 * inputsOf d)
+  -- the output is the move at the row's tuple and the input, and the next state is the tuple after it
+  pub moves : (k i : ℕ) → k < n → i < inputsOf d → Move d h (getD tuples k (firstTuple d)) i (output k i)
+  pub next-low : (k i : ℕ) → k < n → i < inputsOf d → next k i < n
+  pub lands : (k i : ℕ) → k < n → i < inputsOf d
+      → getD tuples (next k i) (firstTuple d) ≡ advance d (getD tuples k (firstTuple d)) i (output k i)
+
+-- ---- the promise: `before` and `after` are the result memory, `w` the lengths of the work memory
+
 pub record MakesGuard (s before : List ℕ) (w : Work) (r : Made) (after : List ℕ) : Type 0 where
   pub makes : Makes guardTableOf guardStates (workOk w) s before r after
-  -- demand 3, of the bytes that were written, as a slice of their own
-  pub faithful : madeNumber r ≡ 0 → Faithful (sheetOf s) (sheetOf s .horizon) (take (madeLength r) after)
+  -- of the table of every accepted sheet, also where the result is too short for it
+  pub rows : (d : Decoded) → Accepted s d → Rows d (d .horizon) (guardStates d) (guardTableOf d)
+  -- which no other bytes have
+  pub only : (d : Decoded) → Accepted s d → (n : ℕ) (table : List ℕ) → Rows d (d .horizon) n table → table ≡ guardTableOf d
+  -- of the bytes that were written, as a slice of their own: these rows, and demand 3
+  pub written : madeNumber r ≡ 0 → (d : Decoded) → Accepted s d → Rows d (d .horizon) (madeStates r) (take (madeLength r) after)
+  pub faithful : madeNumber r ≡ 0 → (d : Decoded) → Accepted s d → Faithful d (d .horizon) (take (madeLength r) after)
   -- the bytes of work memory that the constants ask for
   pub work-bytes :
       tuplesLength + choicesLength

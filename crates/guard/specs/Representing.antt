@@ -27,6 +27,9 @@ use Rattle.plan.specs.Reaching.{Winning, guard-some, guard-first, next-low, out
 abbrev pub tuplesOf : Decoded → ℕ → List (List ℕ)
 tuplesOf d h = tab (guardCount d h) (λ j. stateOf d (getD (guardOf d h) j 0))
 
+pub tuple-at : (d : Decoded) (h j : ℕ) → j < guardCount d h → getD (tuplesOf d h) j (firstTuple d) ≡ stateOf d (getD (guardOf d h) j 0)
+tuple-at d h j l = getD-tab (guardCount d h) _ j (firstTuple d) l
+
 -- no two outputs of a head in bounds have the same rank
 pub ranks-differ : (d : Decoded) → HeadOk d
     → (a b : ℕ) → a < outputsOf d → b < outputsOf d → rank (d .literals) a ≡ rank (d .literals) b → a ≡ b
@@ -61,10 +64,6 @@ module _ (d : Decoded) (fits : stateCount d ≤ maxStates) (realizable : Kept d 
         (rank (d .literals)) h (settled-quiet d fits) realizable same-equal same-self (Higher (d .literals))
         (λ o q ho hq. rank-order (d .literals) o q) (ranks-differ d ok)
 
-    -- the tuple of a guard state
-    tuple-at : (j : ℕ) → j < guardCount d h → getD (tuplesOf d h) j (firstTuple d) ≡ stateOf d (getD (guardOf d h) j 0)
-    tuple-at j l = getD-tab (guardCount d h) _ j (firstTuple d) l
-
     -- the guard's places stand for its tuples
     pub represents : Represents (List ℕ) (inputsOf d) (advance d) (firstTuple d) (Move d h) (Winning d) (tuplesOf d h)
         (guardCount d h) (outputOf d h) (nextOf d h)
@@ -73,13 +72,13 @@ module _ (d : Decoded) (fits : stateCount d ≤ maxStates) (realizable : Kept d 
         record {
           size = sym (length-tab (guardCount d h) _);
           some = rw (length-tab (guardCount d h) (λ j. stateOf d (getD (guardOf d h) j 0))) (guard-some d fits h);
-          first = tuple-at 0 (guard-some d fits h) ∙ ap (stateOf d) (guard-first d fits h) ∙ first-state d;
+          first = tuple-at d h 0 (guard-some d fits h) ∙ ap (stateOf d) (guard-first d fits h) ∙ first-state d;
           moves = λ k i l g u.
-              rw (output-is d fits h start k i l u ∙ sym (ap (λ (t : List ℕ). choiceAt d h t i) (tuple-at k l)))
+              rw (output-is d fits h start k i l u ∙ sym (ap (λ (t : List ℕ). choiceAt d h t i) (tuple-at d h k l)))
               (choice-moves (getD (tuplesOf d h) k (firstTuple d)) i g u);
           low = λ k i l g u. next-low d fits h start k i l u;
           lands = λ k i l g u.
-              tuple-at (nextOf d h k i) (next-low d fits h start k i l u)
+              tuple-at d h (nextOf d h k i) (next-low d fits h start k i l u)
               ∙ next-tuple d fits h start k i l u
-              ∙ sym (ap (λ (t : List ℕ). advance d t i (outputOf d h k i)) (tuple-at k l));
+              ∙ sym (ap (λ (t : List ℕ). advance d t i (outputOf d h k i)) (tuple-at d h k l));
         }

@@ -10,6 +10,7 @@ pub mod Numbered
 pub mod Entries
 pub mod Bytes
 pub mod Demand
+pub mod Only
 pub mod Grounds
 -- the code's places: what solving leaves, how an answer comes about, and this maker's returns
 pub mod Solving

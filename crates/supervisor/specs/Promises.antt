@@ -68,6 +68,8 @@ pub record MakesSupervisor (s before : List ℕ) (tuples cells dropped : ℕ) (r
   pub makes : Makes supervisorTable stateCount (workOk tuples cells dropped) s before r after
   -- of the table of every accepted sheet, also where the result is too short for it
   pub means : (d : Decoded) → Accepted s d → Means d (stateCount d) (supervisorTable d)
+  -- which no other bytes mean
+  pub only : (d : Decoded) → Accepted s d → (n : ℕ) (table : List ℕ) → Means d n table → table ≡ supervisorTable d
   -- of the bytes that were written
   pub written : madeNumber r ≡ 0 → (d : Decoded) → Accepted s d → Means d (madeStates r) (take (madeLength r) after)
   -- the bytes of work memory that the constants ask for

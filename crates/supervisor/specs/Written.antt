@@ -32,6 +32,7 @@ use Rattle.supervisor.specs.Promises.{tuplesLength, cellsLength, dropped
 use Rattle.supervisor.specs.Bytes.{length-table}
 use Rattle.supervisor.specs.Solving.{layout-inputs, layout-outputs, layout-head, solution-table}
 use Rattle.supervisor.specs.Demand.{means}
+use Rattle.supervisor.specs.Only.{only-table}
 use Rattle.supervisor.specs.Judging.{Only, judges-lost, judges-short, judges-made, makes, accepted-fits, written-front}
 use Rattle.supervisor.specs.declared.make.Made.{Made}
 use Rattle.supervisor.specs.declared.make.Made.the-variants.{Table, Refused}
@@ -122,6 +123,7 @@ supervisor-makes {s} {before} {r} {after} tuples cells dropped answers read only
     record {
       makes = all;
       means = table-means;
+      only = λ d a n table x. only-table d x (table-means d a) .1;
       written = λ e d a.
           let w = all .written e d (a .sheet) in
           rw (w .count, written-front w) (table-means d a);
