@@ -6,7 +6,7 @@ use mathlib.Core.List.{List}
 use Prim.Native.Nat.{ℕ, zero, suc, _+_, _-_, _≤_, _<_}
 use native.Mathlib.Omega.{arith}
 use lib.Dec.{leb, eqb}
-use lib.ListN.{length, getD}
+use lib.ListN.{length}
 use Rattle.records.specs.Cursor.{readAt, Lies, lies}
 use Rattle.records.specs.Limits.{horizonOk}
 use Rattle.records.specs.declared.cursor.Cursor.{Cursor}
@@ -14,6 +14,7 @@ use Rattle.records.specs.declared.cursor.Found.{Found}
 use Rattle.records.specs.declared.cursor.Found.the-variants as found
 use Rattle.sheet.specs.Decoded.{inputsOf}
 use Rattle.sheet.specs.Layout.{withMonitor, accepted, refused}
+use Rattle.fields.specs.Places.{modeAt, siteAt, outputsAt, horizonAt}
 use Rattle.fields.specs.Head.{headOk}
 use Rattle.sheet.specs.Head.{headSheet, readHead}
 use Rattle.sheet.specs.Monitor.{monitorOk, monitorAt, takeMonitor}
@@ -37,7 +38,7 @@ pub head-lines : (s : List ℕ) (start size : ℕ) → readHead s start size .ve
 unfolding readHead headSheet
 head-lines s start size e =
     go (headOk s start size)
-    (horizonOk (inputsOf (getD s start 0) (getD s (start + 1) 0) (getD s (start + 2) 0)) (getD s (start + 3) 0))
+    (horizonOk (inputsOf (modeAt s start) (siteAt s start) (outputsAt s start)) (horizonAt s start))
     (λ t. head-facts s start size t .lines-most) e
   where
     go : (a b : Bool) → (a ≡ true → lines (headSheet s start) ≤ 6)
@@ -51,7 +52,7 @@ head-lines s start size e =
 pub same-lines : (s : List ℕ) (h : Sheet) (kind start size : ℕ) → takeRecord s h kind start size .verdict ≡ Accepted
     → lines (takeRecord s h kind start size .sheet) ≡ lines h
 unfolding takeRecord takeMonitor withMonitor
-same-lines s h kind start size e = go (eqb kind 2) (leb 6 (h .count)) (monitorOk s h start size) e
+same-lines s h kind start size e = go (eqb kind 2) (leb 6 (h .count)) (monitorOk s (h .mode) (h .site) (h .outputs) start size) e
   where
     taken : Bool → Bool → Bool → Reading
     taken a b d =

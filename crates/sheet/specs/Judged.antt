@@ -13,10 +13,10 @@ use Rattle.records.specs.Tests.{both-ways, by-test, and-left, and-right, or-not
 use Rattle.records.specs.Bounded.{all-at, all-of}
 use Rattle.records.specs.Limits.{linesOk, Lines, lines-facts}
 use Rattle.sheet.specs.Decoded.{inputsOf, lettersOf}
+use Rattle.fields.specs.Places.{monitorNumbers, roleAt, weightAt, statesAt, firstAt, acceptFrom, rowsFrom}
 use Rattle.fields.specs.Head.{siteOk, freshLine, literalOk, literalsOk, numbersOk, headOk}
 use Rattle.fields.specs.Monitor.{roleOk, statesOk, bytesMost}
 use Rattle.sheet.specs.Monitor.{monitorOk}
-use Rattle.sheet.specs.declared.layout.Sheet.{Sheet}
 
 -- ---- the head
 
@@ -133,12 +133,12 @@ pub record Role (mode role weight : ℕ) : Type 0 where
 
 -- the body of a monitor whose rows have w letters
 pub record Body (s : List ℕ) (at w size : ℕ) : Type 0 where
-  pub states-least : 1 ≤ getD s (at + 2) 0
-  pub states-most : getD s (at + 2) 0 ≤ 32
-  pub start : getD s (at + 3) 0 < getD s (at + 2) 0
-  pub size-is : size ≡ 4 + getD s (at + 2) 0 + getD s (at + 2) 0 * w
-  pub accept : (q : ℕ) → q < getD s (at + 2) 0 → getD s (at + 4 + q) 0 ≤ 1
-  pub next : (k : ℕ) → k < getD s (at + 2) 0 * w → getD s (at + 4 + getD s (at + 2) 0 + k) 0 < getD s (at + 2) 0
+  pub states-least : 1 ≤ statesAt s at
+  pub states-most : statesAt s at ≤ 32
+  pub start : firstAt s at < statesAt s at
+  pub size-is : size ≡ monitorNumbers + statesAt s at + statesAt s at * w
+  pub accept : (q : ℕ) → q < statesAt s at → getD s (acceptFrom at + q) 0 ≤ 1
+  pub next : (k : ℕ) → k < statesAt s at * w → getD s (rowsFrom s at + k) 0 < statesAt s at
 
 role-facts : (mode role weight : ℕ) → roleOk mode role weight ≡ true → Role mode role weight
 unfolding roleOk
@@ -177,14 +177,14 @@ role-test m r w h =
     rw (a, b, eq-eqb r 2 q, eq-eqb m 1 (h .limit q), eq-eqb w 0 (h .unweighted (eqb-false r 1 b)))))
 
 -- what a monitor that passes its tests has
-pub monitor-facts : (s : List ℕ) (h : Sheet) (at size : ℕ) → monitorOk s h at size ≡ true
-    → Role (h .mode) (getD s at 0) (getD s (at + 1) 0) × Body s at (lettersOf (getD s at 0) (h .site) (h .outputs)) size
+pub monitor-facts : (s : List ℕ) (mode site outputs at size : ℕ) → monitorOk s mode site outputs at size ≡ true
+    → Role mode (roleAt s at) (weightAt s at) × Body s at (lettersOf (roleAt s at) site outputs) size
 unfolding monitorOk statesOk bytesMost
-monitor-facts s h at size e =
+monitor-facts s mode site outputs at size e =
     let n : ℕ = getD s (at + 2) 0 in
-    let w : ℕ = lettersOf (getD s at 0) (h .site) (h .outputs) in
+    let w : ℕ = lettersOf (getD s at 0) site outputs in
     let least : 1 ≤ getD s (at + 2) 0 = leb-true 1 n (search (and-left, and-right) depth 9) in (
-      role-facts (h .mode) (getD s at 0) (getD s (at + 1) 0) (search (and-left, and-right) depth 9),
+      role-facts mode (roleAt s at) (weightAt s at) (search (and-left, and-right) depth 9),
       record {
         states-least = least;
         states-most = leb-true n 32 (search (and-left, and-right) depth 9);
@@ -201,15 +201,15 @@ monitor-facts s h at size e =
     )
 
 -- and that such a monitor passes them
-pub monitor-test : (s : List ℕ) (h : Sheet) (at size : ℕ) → Role (h .mode) (getD s at 0) (getD s (at + 1) 0)
-    → Body s at (lettersOf (getD s at 0) (h .site) (h .outputs)) size → monitorOk s h at size ≡ true
+pub monitor-test : (s : List ℕ) (mode site outputs at size : ℕ) → Role mode (roleAt s at) (weightAt s at)
+    → Body s at (lettersOf (roleAt s at) site outputs) size → monitorOk s mode site outputs at size ≡ true
 unfolding monitorOk statesOk bytesMost
-monitor-test s h at size r b =
+monitor-test s mode site outputs at size r b =
     let n : ℕ = getD s (at + 2) 0 in
-    let w : ℕ = lettersOf (getD s at 0) (h .site) (h .outputs) in
+    let w : ℕ = lettersOf (getD s at 0) site outputs in
     rw (
       le-leb 4 size (omega (arith, b .size-is)),
-      role-test (h .mode) (getD s at 0) (getD s (at + 1) 0) r,
+      role-test mode (getD s at 0) (getD s (at + 1) 0) r,
       le-leb 1 n (b .states-least),
       le-leb n 32 (b .states-most),
       lt-ltb (getD s (at + 3) 0) n (b .start),

@@ -154,7 +154,7 @@ module _ (s : List ℕ) (b : Bytes s) (k : ℕ) (c : Chain s k) where
       → Role (getD s 4 0) (getD s (offset s j + 4) 0) (getD s (offset s j + 4 + 1) 0)
       × Body s (offset s j + 4) (lettersOf (getD s (offset s j + 4) 0) (getD s 5 0) (getD s 6 0)) (u16At s (offset s j))
   unfolding upto
-  body j l = monitor-facts s (upto s j) (offset s j + 4) (u16At s (offset s j)) (c .turn j l .ok)
+  body j l = monitor-facts s (upto s j .mode) (upto s j .site) (upto s j .outputs) (offset s j + 4) (u16At s (offset s j)) (c .turn j l .ok)
 
   monitor-at : (j : ℕ) → j < k → monitorOf (decoded s (upto s k)) j ≡ automaton s (upto s k) (monitorAt s (offset s j + 4))
   unfolding upto

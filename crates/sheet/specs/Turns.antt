@@ -20,6 +20,7 @@ use Rattle.records.specs.Limits.{horizonOk}
 use Rattle.sheet.specs.Decoded.{inputsOf}
 use Rattle.sheet.specs.Layout.{noMonitor, accepted, refused, verdictNumber, withMonitor}
 use Rattle.sheet.specs.Where.{placed}
+use Rattle.fields.specs.Places.{modeAt, siteAt, outputsAt, horizonAt}
 use Rattle.fields.specs.Head.{headOk}
 use Rattle.sheet.specs.Head.{headSheet, readHead}
 use Rattle.sheet.specs.Monitor.{monitorOk, monitorAt, takeMonitor}
@@ -58,7 +59,7 @@ upto s k =
 -- the record of monitor j passes its tests
 pub record Turn (s : List ℕ) (j : ℕ) : Type 0 where
   pub kind : u16At s (offset s j + 2) ≡ 2
-  pub ok : monitorOk s (upto s j) (offset s j + 4) (u16At s (offset s j)) ≡ true
+  pub ok : monitorOk s (upto s j .mode) (upto s j .site) (upto s j .outputs) (offset s j + 4) (u16At s (offset s j)) ≡ true
 
 -- a head and k monitors pass their tests and fill the bytes
 pub record Chain (s : List ℕ) (k : ℕ) : Type 0 where
@@ -112,9 +113,9 @@ offset-up s j (suc m) = rw (add-suc j m) (omega (arith, offset-up s j m))
 -- a record that is accepted passes its tests
 take-passes : (s : List ℕ) (h : Sheet) (kind start size : ℕ) (next : Sheet → Reading)
     → chained (takeRecord s h kind start size) next ≡ 0
-    → (eqb kind 2 ≡ true) × (leb 6 (h .count) ≡ false) × (monitorOk s h start size ≡ true)
+    → (eqb kind 2 ≡ true) × (leb 6 (h .count) ≡ false) × (monitorOk s (h .mode) (h .site) (h .outputs) start size ≡ true)
 unfolding takeRecord takeMonitor
-take-passes s h kind start size next = go (eqb kind 2) (leb 6 (h .count)) (monitorOk s h start size)
+take-passes s h kind start size next = go (eqb kind 2) (leb 6 (h .count)) (monitorOk s (h .mode) (h .site) (h .outputs) start size)
   where
     go : (a b c : Bool)
         → chained
@@ -127,17 +128,18 @@ take-passes s h kind start size next = go (eqb kind 2) (leb 6 (h .count)) (monit
     go false b c e = absurd (omega arith)
 
 -- and one that passes them is accepted
-take-accepts : (s : List ℕ) (h : Sheet) (kind start size : ℕ) → kind ≡ 2 → h .count < 6 → monitorOk s h start size ≡ true
+take-accepts : (s : List ℕ) (h : Sheet) (kind start size : ℕ) → kind ≡ 2 → h .count < 6
+    → monitorOk s (h .mode) (h .site) (h .outputs) start size ≡ true
     → takeRecord s h kind start size ≡ accepted (withMonitor h (monitorAt s start))
 unfolding takeRecord takeMonitor
 take-accepts s h kind start size e l m = rw (eq-eqb kind 2 e, lt-leb 6 (h .count) l, m)
 
 head-passes : (s : List ℕ) (start size : ℕ) (next : Sheet → Reading) → chained (readHead s start size) next ≡ 0
     → (headOk s start size ≡ true)
-    × (horizonOk (inputsOf (getD s start 0) (getD s (start + 1) 0) (getD s (start + 2) 0)) (getD s (start + 3) 0) ≡ true)
+    × (horizonOk (inputsOf (modeAt s start) (siteAt s start) (outputsAt s start)) (horizonAt s start) ≡ true)
 unfolding readHead
 head-passes s start size next =
-    go (headOk s start size) (horizonOk (inputsOf (getD s start 0) (getD s (start + 1) 0) (getD s (start + 2) 0)) (getD s (start + 3) 0))
+    go (headOk s start size) (horizonOk (inputsOf (modeAt s start) (siteAt s start) (outputsAt s start)) (horizonAt s start))
   where
     go : (a b : Bool)
         → chained (cond a (cond b (accepted (headSheet s start)) (refused LongHorizon)) (refused BadHead)) next ≡ 0
@@ -176,10 +178,10 @@ walk-finds zero s j h l e = absurd (omega arith)
 walk-finds (suc n) s j h l e =
     read-cases s (offset s j)
     (λ f m. (j, record { from = omega arith; count = h; turn = λ i u v. absurd (omega arith); ends = omega arith; whole = rw f }))
-    (λ f. absurd (let z : _≡_ {A = ℕ} 1 0 = rw f at e in omega arith))
+    (λ f m. absurd (let z : _≡_ {A = ℕ} 1 0 = rw f at e in omega arith))
     (λ f m.
     let passes : (eqb (u16At s (offset s j + 2)) 2 ≡ true) × (leb 6 (upto s j .count) ≡ false)
-    × (monitorOk s (upto s j) (offset s j + 4) (u16At s (offset s j)) ≡ true) =
+    × (monitorOk s (upto s j .mode) (upto s j .site) (upto s j .outputs) (offset s j + 4) (u16At s (offset s j)) ≡ true) =
     take-passes s (upto s j) (u16At s (offset s j + 2)) (offset s j + 4) (u16At s (offset s j))
     (λ h′. readRecords n s h′ (offset s (suc j))) (rw f at e) in
     let t : Turn s j = record { kind = eqb-true (u16At s (offset s j + 2)) 2 (passes .0); ok = passes .2 } in
@@ -222,7 +224,7 @@ unfolding reading firstFound offset
 chain-of s e =
     read-cases s 0
     (λ f m. absurd (let z : _≡_ {A = ℕ} 2 0 = rw f at e in omega arith))
-    (λ f. absurd (let z : _≡_ {A = ℕ} 1 0 = rw f at e in omega arith))
+    (λ f m. absurd (let z : _≡_ {A = ℕ} 1 0 = rw f at e in omega arith))
     (λ f m.
     by-test (eqb (u16At s 2) 1)
     (λ t.

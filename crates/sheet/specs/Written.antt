@@ -118,8 +118,8 @@ module _ (s p r : List ℕ) (d : Decoded) (a : Automaton) (o : MonitorOk d a) (e
         (record { role-most = o .role; limit = o .limit; soft = o .soft; unweighted = o .unweighted })
 
     -- the record passes its tests
-    pub monitor-passes : monitorOk s h (length p + 4) (u16At s (length p)) ≡ true
-    monitor-passes = monitor-test s h (length p + 4) (u16At s (length p)) role (rw wide body)
+    pub monitor-passes : monitorOk s (h .mode) (h .site) (h .outputs) (length p + 4) (u16At s (length p)) ≡ true
+    monitor-passes = monitor-test s (h .mode) (h .site) (h .outputs) (length p + 4) (u16At s (length p)) role (rw wide body)
 
     -- and is read as the automaton that was written
     pub monitor-back : automaton s h (monitorAt s (length p + 4)) ≡ a

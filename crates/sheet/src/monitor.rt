@@ -15,7 +15,7 @@ ghost use Rattle.sheet.specs.Monitor.{monitorOk, monitorAt, takeMonitor}
 // Whether a monitor's body is in order; its tables are looked at only where its numbers are.
 pub fn monitor_ok(s: &[u8], sheet: Sheet, start: usize, size: usize) -> bool
     requires { ⌜ (sheet .site + sheet .outputs ≤ 6) × (start + size ≤ length (now s)) ⌝ }
-    ensures { λ r. ⌜ r ≡ monitorOk (now (s .entry)) sheet start size ⌝ }
+    ensures { λ r. ⌜ r ≡ monitorOk (now (s .entry)) (sheet .mode) (sheet .site) (sheet .outputs) start size ⌝ }
 {
     if size < 4 {
         return false;

@@ -37,7 +37,7 @@ returns-2 c = let t = c .before .before in
     simp (room (t .before), said-no (t .monitor-ok .ensures) (c .before .if2 .taken)) (c .refused2 .ensures)
 
 monitor-at-requires : tie.Need-monitor-at-requires
-monitor-at-requires c κs = omega (arith, monitor-least _ _ _ _ (said-yes (c .before .monitor-ok .ensures) (c .if2 .left)))
+monitor-at-requires c κs = omega (arith, monitor-least _ _ _ _ _ _ (said-yes (c .before .monitor-ok .ensures) (c .if2 .left)))
 
 with-monitor-requires : tie.Need-with-monitor-requires
 with-monitor-requires c κs = search needs
