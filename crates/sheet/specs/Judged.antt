@@ -13,7 +13,7 @@ use Rattle.records.specs.Tests.{both-ways, by-test, and-left, and-right, or-not
 use Rattle.records.specs.Bounded.{all-at, all-of}
 use Rattle.records.specs.Limits.{linesOk, Lines, lines-facts}
 use Rattle.sheet.specs.Decoded.{inputsOf, lettersOf}
-use Rattle.fields.specs.Places.{monitorNumbers, roleAt, weightAt, statesAt, firstAt, acceptFrom, rowsFrom}
+use Rattle.fields.specs.Places.{modeAt, siteAt, outputsAt, matchingAt, literalsFrom, monitorNumbers, roleAt, weightAt, statesAt, firstAt, acceptFrom, rowsFrom}
 use Rattle.fields.specs.Head.{siteOk, freshLine, literalOk, literalsOk, numbersOk, headOk}
 use Rattle.fields.specs.Monitor.{roleOk, statesOk, bytesMost}
 use Rattle.sheet.specs.Monitor.{monitorOk}
@@ -104,22 +104,22 @@ literals-test s at o l =
 
 -- what a head that passes its tests has
 pub head-facts : (s : List ℕ) (size : ℕ) → headOk s 4 size ≡ true
-    → Numbers (getD s 4 0) (getD s 5 0) (getD s 6 0) (getD s 8 0) size × Literals s 9 (getD s 6 0)
+    → Numbers (modeAt s 4) (siteAt s 4) (outputsAt s 4) (matchingAt s 4) size × Literals s (literalsFrom 4) (outputsAt s 4)
 unfolding headOk
 head-facts s size e = (
-  numbers-facts (getD s 4 0) (getD s 5 0) (getD s 6 0) (getD s 8 0) size (search (and-left, and-right) depth 9),
-  literals-facts s 9 (getD s 6 0) (search (and-left, and-right) depth 9),
+  numbers-facts (modeAt s 4) (siteAt s 4) (outputsAt s 4) (matchingAt s 4) size (search (and-left, and-right) depth 9),
+  literals-facts s 9 (outputsAt s 4) (search (and-left, and-right) depth 9),
 )
 
 -- and that such a head passes them
-pub head-test : (s : List ℕ) (size : ℕ) → Numbers (getD s 4 0) (getD s 5 0) (getD s 6 0) (getD s 8 0) size
-    → Literals s 9 (getD s 6 0) → headOk s 4 size ≡ true
+pub head-test : (s : List ℕ) (size : ℕ) → Numbers (modeAt s 4) (siteAt s 4) (outputsAt s 4) (matchingAt s 4) size
+    → Literals s (literalsFrom 4) (outputsAt s 4) → headOk s 4 size ≡ true
 unfolding headOk
 head-test s size n l =
     rw (
       le-leb 5 size (omega (arith, n .size-is)),
-      numbers-test (getD s 4 0) (getD s 5 0) (getD s 6 0) (getD s 8 0) size n,
-      literals-test s 9 (getD s 6 0) l,
+      numbers-test (modeAt s 4) (siteAt s 4) (outputsAt s 4) (matchingAt s 4) size n,
+      literals-test s 9 (outputsAt s 4) l,
     )
 
 -- ---- a monitor
@@ -181,21 +181,21 @@ pub monitor-facts : (s : List ℕ) (mode site outputs at size : ℕ) → monitor
     → Role mode (roleAt s at) (weightAt s at) × Body s at (lettersOf (roleAt s at) site outputs) size
 unfolding monitorOk statesOk bytesMost
 monitor-facts s mode site outputs at size e =
-    let n : ℕ = getD s (at + 2) 0 in
-    let w : ℕ = lettersOf (getD s at 0) site outputs in
-    let least : 1 ≤ getD s (at + 2) 0 = leb-true 1 n (search (and-left, and-right) depth 9) in (
+    let n : ℕ = statesAt s at in
+    let w : ℕ = lettersOf (roleAt s at) site outputs in
+    let least : 1 ≤ statesAt s at = leb-true 1 n (search (and-left, and-right) depth 9) in (
       role-facts mode (roleAt s at) (weightAt s at) (search (and-left, and-right) depth 9),
       record {
         states-least = least;
         states-most = leb-true n 32 (search (and-left, and-right) depth 9);
-        start = ltb-true (getD s (at + 3) 0) n (search (and-left, and-right) depth 9);
+        start = ltb-true (firstAt s at) n (search (and-left, and-right) depth 9);
         size-is = eqb-true size (4 + n + n * w) (search (and-left, and-right) depth 9);
-        accept = λ q l. leb-true (getD s (at + 4 + q) 0) 1
-            (all-at n (λ k. leb (getD s (at + 4 + k) 0) 1) (search (and-left, and-right) depth 9) q l);
+        accept = λ q l. leb-true (getD s (acceptFrom at + q) 0) 1
+            (all-at n (λ k. leb (getD s (acceptFrom at + k) 0) 1) (search (and-left, and-right) depth 9) q l);
         next = λ k l. omega (
           arith,
-          leb-true (getD s (at + 4 + n + k) 0) (n - 1)
-              (all-at (n * w) (λ k. leb (getD s (at + 4 + n + k) 0) (n - 1)) (search (and-left, and-right) depth 9) k l),
+          leb-true (getD s (rowsFrom s at + k) 0) (n - 1)
+              (all-at (n * w) (λ k. leb (getD s (rowsFrom s at + k) 0) (n - 1)) (search (and-left, and-right) depth 9) k l),
         );
       },
     )
@@ -205,16 +205,16 @@ pub monitor-test : (s : List ℕ) (mode site outputs at size : ℕ) → Role mod
     → Body s at (lettersOf (roleAt s at) site outputs) size → monitorOk s mode site outputs at size ≡ true
 unfolding monitorOk statesOk bytesMost
 monitor-test s mode site outputs at size r b =
-    let n : ℕ = getD s (at + 2) 0 in
-    let w : ℕ = lettersOf (getD s at 0) site outputs in
+    let n : ℕ = statesAt s at in
+    let w : ℕ = lettersOf (roleAt s at) site outputs in
     rw (
       le-leb 4 size (omega (arith, b .size-is)),
-      role-test mode (getD s at 0) (getD s (at + 1) 0) r,
+      role-test mode (roleAt s at) (weightAt s at) r,
       le-leb 1 n (b .states-least),
       le-leb n 32 (b .states-most),
-      lt-ltb (getD s (at + 3) 0) n (b .start),
+      lt-ltb (firstAt s at) n (b .start),
       eq-eqb size (4 + n + n * w) (b .size-is),
-      all-of n (λ k. leb (getD s (at + 4 + k) 0) 1) (λ q l. le-leb (getD s (at + 4 + q) 0) 1 (b .accept q l)),
-      all-of (n * w) (λ k. leb (getD s (at + 4 + n + k) 0) (n - 1))
-          (λ k l. le-leb (getD s (at + 4 + n + k) 0) (n - 1) (omega (arith, b .next k l))),
+      all-of n (λ k. leb (getD s (acceptFrom at + k) 0) 1) (λ q l. le-leb (getD s (acceptFrom at + q) 0) 1 (b .accept q l)),
+      all-of (n * w) (λ k. leb (getD s (rowsFrom s at + k) 0) (n - 1))
+          (λ k l. le-leb (getD s (rowsFrom s at + k) 0) (n - 1) (omega (arith, b .next k l))),
     )

@@ -14,13 +14,12 @@ use lib.Seq.{getD-set-same, getD-set-other}
 use borrow.Author.Tests.{eqb-true, leb-false, eq-eqb, lt-leb}
 use Rattle.records.specs.Tests.{by-test}
 use Rattle.records.specs.Bounded.{cases-suc}
-use Rattle.records.specs.Numbers.{u16At}
-use Rattle.records.specs.Cursor.{read-cases, read-end, read-record}
+use Rattle.records.specs.Cursor.{sizeAt, kindAt, bodyAt, endAt, read-cases, read-end, read-record}
 use Rattle.records.specs.Limits.{horizonOk}
 use Rattle.sheet.specs.Decoded.{inputsOf}
 use Rattle.sheet.specs.Layout.{noMonitor, accepted, refused, verdictNumber, withMonitor}
 use Rattle.sheet.specs.Where.{placed}
-use Rattle.fields.specs.Places.{modeAt, siteAt, outputsAt, horizonAt}
+use Rattle.fields.specs.Places.{modeAt, siteAt, outputsAt, horizonAt, matchingAt}
 use Rattle.fields.specs.Head.{headOk}
 use Rattle.sheet.specs.Head.{headSheet, readHead}
 use Rattle.sheet.specs.Monitor.{monitorOk, monitorAt, takeMonitor}
@@ -33,24 +32,24 @@ use Rattle.sheet.specs.declared.layout.Reading.{Reading}
 
 -- where the record of monitor j begins, if there is one; each ends where the next begins
 unfoldable pub offset : List ℕ → ℕ → ℕ
-offset s zero = 4 + u16At s 0
-offset s (suc j) = offset s j + 4 + u16At s (offset s j)
+offset s zero = endAt s 0
+offset s (suc j) = endAt s (offset s j)
 
 -- the places of the first k monitors
 unfoldable pub places : List ℕ → ℕ → List Monitor
 places s zero = replicate 6 noMonitor
-places s (suc k) = set (places s k) k (monitorAt s (offset s k + 4))
+places s (suc k) = set (places s k) k (monitorAt s (bodyAt (offset s k)))
 
 -- the layout of the head and the first k monitors
 unfoldable pub upto : List ℕ → ℕ → Sheet
 upto s k =
     record {
-      mode = getD s 4 0;
-      site = getD s 5 0;
-      inputs = inputsOf (getD s 4 0) (getD s 5 0) (getD s 6 0);
-      outputs = getD s 6 0;
-      horizon = getD s 7 0;
-      matching = getD s 8 0;
+      mode = modeAt s 4;
+      site = siteAt s 4;
+      inputs = inputsOf (modeAt s 4) (siteAt s 4) (outputsAt s 4);
+      outputs = outputsAt s 4;
+      horizon = horizonAt s 4;
+      matching = matchingAt s 4;
       literals = headSheet s 4 .literals;
       monitors = places s k;
       count = k;
@@ -58,14 +57,14 @@ upto s k =
 
 -- the record of monitor j passes its tests
 pub record Turn (s : List ℕ) (j : ℕ) : Type 0 where
-  pub kind : u16At s (offset s j + 2) ≡ 2
-  pub ok : monitorOk s (upto s j .mode) (upto s j .site) (upto s j .outputs) (offset s j + 4) (u16At s (offset s j)) ≡ true
+  pub kind : kindAt s (offset s j) ≡ 2
+  pub ok : monitorOk s (upto s j .mode) (upto s j .site) (upto s j .outputs) (bodyAt (offset s j)) (sizeAt s (offset s j)) ≡ true
 
 -- a head and k monitors pass their tests and fill the bytes
 pub record Chain (s : List ℕ) (k : ℕ) : Type 0 where
-  pub kind : u16At s 2 ≡ 1
-  pub head : headOk s 4 (u16At s 0) ≡ true
-  pub horizon : horizonOk (inputsOf (getD s 4 0) (getD s 5 0) (getD s 6 0)) (getD s 7 0) ≡ true
+  pub kind : kindAt s 0 ≡ 1
+  pub head : headOk s 4 (sizeAt s 0) ≡ true
+  pub horizon : horizonOk (inputsOf (modeAt s 4) (siteAt s 4) (outputsAt s 4)) (horizonAt s 4) ≡ true
   pub count : k ≤ 6
   pub turn : (j : ℕ) → j < k → Turn s j
   pub ends : offset s k ≡ length s
@@ -76,23 +75,23 @@ upto-none : (s : List ℕ) → headSheet s 4 ≡ upto s 0
 unfolding headSheet upto places
 upto-none s = refl
 
-upto-more : (s : List ℕ) (k : ℕ) → withMonitor (upto s k) (monitorAt s (offset s k + 4)) ≡ upto s (suc k)
+upto-more : (s : List ℕ) (k : ℕ) → withMonitor (upto s k) (monitorAt s (bodyAt (offset s k))) ≡ upto s (suc k)
 unfolding withMonitor upto places
-upto-more s k = rw add-one
+upto-more s k = rw (add-one k)
 
 length-places : (s : List ℕ) (k : ℕ) → length (places s k) ≡ 6
 unfolding places
 length-places s zero = refl
-length-places s (suc k) = length-set (places s k) k (monitorAt s (offset s k + 4)) ∙ length-places s k
+length-places s (suc k) = length-set (places s k) k (monitorAt s (bodyAt (offset s k))) ∙ length-places s k
 
 -- monitor j lies where its record begins
-pub placed-at : (s : List ℕ) (k j : ℕ) → k ≤ 6 → j < k → placed (upto s k) j ≡ monitorAt s (offset s j + 4)
+pub placed-at : (s : List ℕ) (k j : ℕ) → k ≤ 6 → j < k → placed (upto s k) j ≡ monitorAt s (bodyAt (offset s j))
 unfolding upto places
 placed-at s zero j h l = absurd (omega arith)
 placed-at s (suc k) j h l =
     cases-suc j k l
-    (λ u. getD-set-other (places s k) k j (monitorAt s (offset s k + 4)) noMonitor (omega arith) ∙ placed-at s k j (omega arith) u)
-    (λ e. rw e (getD-set-same (places s k) k (monitorAt s (offset s k + 4)) noMonitor (rw (length-places s k) (omega arith))))
+    (λ u. getD-set-other (places s k) k j (monitorAt s (bodyAt (offset s k))) noMonitor (omega arith) ∙ placed-at s k j (omega arith) u)
+    (λ e. rw e (getD-set-same (places s k) k (monitorAt s (bodyAt (offset s k))) noMonitor (rw (length-places s k) (omega arith))))
 
 room : (s : List ℕ) (k : ℕ) → k < 6 → upto s k .count < 6
 unfolding upto
@@ -167,7 +166,7 @@ unfolding readRecords onFound offset
 step-whole n s j l t h =
     rw (
       read-record s (offset s j) h,
-      take-accepts s (upto s j) (u16At s (offset s j + 2)) (offset s j + 4) (u16At s (offset s j)) (t .kind) (room s j l) (t .ok),
+      take-accepts s (upto s j) (kindAt s (offset s j)) (bodyAt (offset s j)) (sizeAt s (offset s j)) (t .kind) (room s j l) (t .ok),
       upto-more s j,
     )
 
@@ -180,11 +179,11 @@ walk-finds (suc n) s j h l e =
     (λ f m. (j, record { from = omega arith; count = h; turn = λ i u v. absurd (omega arith); ends = omega arith; whole = rw f }))
     (λ f m. absurd (let z : _≡_ {A = ℕ} 1 0 = rw f at e in omega arith))
     (λ f m.
-    let passes : (eqb (u16At s (offset s j + 2)) 2 ≡ true) × (leb 6 (upto s j .count) ≡ false)
-    × (monitorOk s (upto s j .mode) (upto s j .site) (upto s j .outputs) (offset s j + 4) (u16At s (offset s j)) ≡ true) =
-    take-passes s (upto s j) (u16At s (offset s j + 2)) (offset s j + 4) (u16At s (offset s j))
+    let passes : (eqb (kindAt s (offset s j)) 2 ≡ true) × (leb 6 (upto s j .count) ≡ false)
+    × (monitorOk s (upto s j .mode) (upto s j .site) (upto s j .outputs) (bodyAt (offset s j)) (sizeAt s (offset s j)) ≡ true) =
+    take-passes s (upto s j) (kindAt s (offset s j)) (bodyAt (offset s j)) (sizeAt s (offset s j))
     (λ h′. readRecords n s h′ (offset s (suc j))) (rw f at e) in
-    let t : Turn s j = record { kind = eqb-true (u16At s (offset s j + 2)) 2 (passes .0); ok = passes .2 } in
+    let t : Turn s j = record { kind = eqb-true (kindAt s (offset s j)) 2 (passes .0); ok = passes .2 } in
     let more : readRecords (suc n) s (upto s j) (offset s j) ≡ readRecords n s (upto s (suc j)) (offset s (suc j)) =
     step-whole n s j (below s j (passes .1)) t m in
     let r : (k : ℕ) × Walk n s (suc j) k = walk-finds n s (suc j) (below s j (passes .1)) m (rw more at e) in (
@@ -212,11 +211,11 @@ walk-reaches (suc m) (suc n) s j k q l h t e =
 
 -- ---- the whole sheet
 
-head-whole : (s : List ℕ) → u16At s 2 ≡ 1 → headOk s 4 (u16At s 0) ≡ true
-    → horizonOk (inputsOf (getD s 4 0) (getD s 5 0) (getD s 6 0)) (getD s 7 0) ≡ true → 4 + u16At s 0 ≤ length s
+head-whole : (s : List ℕ) → kindAt s 0 ≡ 1 → headOk s 4 (sizeAt s 0) ≡ true
+    → horizonOk (inputsOf (modeAt s 4) (siteAt s 4) (outputsAt s 4)) (horizonAt s 4) ≡ true → endAt s 0 ≤ length s
     → reading s ≡ readRecords (suc (length s)) s (upto s 0) (offset s 0)
 unfolding reading firstFound readHead offset
-head-whole s k a b h = rw (read-record s 0 h, eq-eqb (u16At s 2) 1 k, a, b, upto-none s)
+head-whole s k a b h = rw (read-record s 0 h, eq-eqb (kindAt s 0) 1 k, a, b, upto-none s)
 
 -- an accepted sheet is a head and monitors that pass their tests, and its layout is theirs
 pub chain-of : (s : List ℕ) → verdictNumber (reading s .verdict) ≡ 0 → (k : ℕ) × Chain s k × (reading s ≡ accepted (upto s k))
@@ -226,11 +225,11 @@ chain-of s e =
     (λ f m. absurd (let z : _≡_ {A = ℕ} 2 0 = rw f at e in omega arith))
     (λ f m. absurd (let z : _≡_ {A = ℕ} 1 0 = rw f at e in omega arith))
     (λ f m.
-    by-test (eqb (u16At s 2) 1)
+    by-test (eqb (kindAt s 0) 1)
     (λ t.
-    let passes : (headOk s 4 (u16At s 0) ≡ true) × (horizonOk (inputsOf (getD s 4 0) (getD s 5 0) (getD s 6 0)) (getD s 7 0) ≡ true) =
-    head-passes s 4 (u16At s 0) (λ h. readRecords (suc (length s)) s h (offset s 0)) (rw (f, t) at e) in
-    let kind : u16At s 2 ≡ 1 = eqb-true (u16At s 2) 1 t in
+    let passes : (headOk s 4 (sizeAt s 0) ≡ true) × (horizonOk (inputsOf (modeAt s 4) (siteAt s 4) (outputsAt s 4)) (horizonAt s 4) ≡ true) =
+    head-passes s 4 (sizeAt s 0) (λ h. readRecords (suc (length s)) s h (offset s 0)) (rw (f, t) at e) in
+    let kind : kindAt s 0 ≡ 1 = eqb-true (kindAt s 0) 1 t in
     let more : reading s ≡ readRecords (suc (length s)) s (upto s 0) (offset s 0) = head-whole s kind (passes .0) (passes .1) m in
     let r : (k : ℕ) × Walk (suc (length s)) s 0 k = walk-finds (suc (length s)) s 0 (omega arith) m (rw more at e) in (
       r .0,
