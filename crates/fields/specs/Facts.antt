@@ -8,7 +8,7 @@ use native.Mathlib.Omega.{arith}
 use borrow.Author.Tests.{leb-true, ltb-true, eqb-true}
 use lib.Dec.{eqb}
 use Rattle.records.specs.Tests.{and-left, and-right}
-use Rattle.records.specs.Limits.{linesOk, lines-facts}
+use Rattle.records.specs.Limits.{maxInputs, maxOutputs, maxLines, maxMonitorStates, linesOk, lines-facts}
 use Rattle.fields.specs.Places.{headNumbers, modeAt, siteAt, outputsAt, matchingAt, monitorNumbers}
 use Rattle.fields.specs.Lines.{inputsOf}
 use Rattle.fields.specs.Head.{siteOk, numbersOk, headOk}
@@ -25,9 +25,9 @@ site-le mode site outputs = go (eqb mode 1)
 
 -- the numbers of a head
 pub record Numbers (site outputs size : ℕ) : Type 0 where
-  pub site-most : site ≤ 4
-  pub outputs-most : outputs ≤ 3
-  pub lines-most : site + outputs ≤ 6
+  pub site-most : site ≤ maxInputs
+  pub outputs-most : outputs ≤ maxOutputs
+  pub lines-most : site + outputs ≤ maxLines
   pub size-is : size ≡ headNumbers + outputs
 
 pub numbers-facts : (mode site outputs matching size : ℕ) → numbersOk mode site outputs matching size ≡ true
@@ -36,7 +36,7 @@ unfolding numbersOk siteOk
 numbers-facts mode site outputs matching size e =
     let lines = lines-facts mode (inputsOf mode site outputs) outputs (search (and-left, and-right)) in
     record {
-      site-most = leb-true site 4 (search (and-left, and-right));
+      site-most = leb-true site maxInputs (search (and-left, and-right));
       outputs-most = lines .outputs-most;
       lines-most = omega (arith, lines .lines-most, site-le mode site outputs);
       size-is = eqb-true size (headNumbers + outputs) (search (and-left, and-right));
@@ -52,7 +52,7 @@ head-facts s start size e =
 -- the numbers of a monitor
 pub record States (states start letters size : ℕ) : Type 0 where
   pub states-least : 1 ≤ states
-  pub states-most : states ≤ 32
+  pub states-most : states ≤ maxMonitorStates
   pub start-below : start < states
   pub size-is : size ≡ monitorNumbers + states + states * letters
 
@@ -62,7 +62,7 @@ unfolding statesOk
 states-facts states start letters size e =
     record {
       states-least = leb-true 1 states (search and-left);
-      states-most = leb-true states 32 (search (and-left, and-right));
+      states-most = leb-true states maxMonitorStates (search (and-left, and-right));
       start-below = ltb-true start states (search (and-left, and-right));
       size-is = eqb-true size (monitorNumbers + states + states * letters) (search (and-left, and-right));
     }

@@ -2,6 +2,29 @@
 ghost use mathlib.Core.Path.{_≡_};
 ghost use Rattle.records.specs.Limits.{linesOk, horizonOk};
 
+// Document 01's bounds on a sheet.
+pub struct Limits {}
+
+impl Limits {
+    // Input lines, output lines, and both together.
+    pub const INPUTS: u8 = 4;
+
+    pub const OUTPUTS: u8 = 3;
+
+    pub const LINES: u8 = 6;
+
+    // The horizon; inputs × horizon too.
+    pub const HORIZON: u8 = 24;
+
+    // Monitors, and the states of one.
+    pub const MONITORS: usize = 6;
+
+    pub const MONITOR_STATES: u8 = 32;
+
+    // A literal is below this: a line, 8 more if off is preferred.
+    pub const LITERAL_END: u8 = 16;
+}
+
 // Whether mode, input lines and output lines are in bounds.
 pub fn lines_ok(mode: u8, inputs: u8, outputs: u8) -> bool
     ensures { λ r. ⌜ r ≡ linesOk mode inputs outputs ⌝ }
@@ -9,16 +32,16 @@ pub fn lines_ok(mode: u8, inputs: u8, outputs: u8) -> bool
     if 1 < mode {
         return false;
     }
-    if 4 < inputs {
+    if Limits::INPUTS < inputs {
         return false;
     }
     if outputs < 1 {
         return false;
     }
-    if 3 < outputs {
+    if Limits::OUTPUTS < outputs {
         return false;
     }
-    if 6 < inputs + outputs {
+    if Limits::LINES < inputs + outputs {
         return false;
     }
     mode == 0 || outputs <= inputs
@@ -28,8 +51,8 @@ pub fn lines_ok(mode: u8, inputs: u8, outputs: u8) -> bool
 pub fn horizon_ok(inputs: u8, horizon: u8) -> bool
     ensures { λ r. ⌜ r ≡ horizonOk inputs horizon ⌝ }
 {
-    if 24 < horizon {
+    if Limits::HORIZON < horizon {
         return false;
     }
-    (inputs as u16) * (horizon as u16) <= 24
+    (inputs as u16) * (horizon as u16) <= Limits::HORIZON as u16
 }

@@ -10,11 +10,11 @@ use lib.ListN.{length}
 use borrow.Author.Tests.{le-leb, lt-leb, lt-ltb, le-ltb}
 use Rattle.records.specs.Tests.{by-test}
 use Rattle.records.specs.Cursor.{readAt, sizeAt, kindAt, bodyAt, endAt, read-cases}
-use Rattle.records.specs.Limits.{horizonOk}
+use Rattle.records.specs.Limits.{maxMonitors, horizonOk}
 use Rattle.fields.specs.Places.{modeAt, siteAt, outputsAt, horizonAt}
 use Rattle.fields.specs.Lines.{inputsOf}
 use Rattle.fields.specs.Head.{headOk}
-use Rattle.sheet.specs.Layout.{maxMonitors, accepted, refused, verdictNumber, withMonitor}
+use Rattle.sheet.specs.Layout.{accepted, refused, verdictNumber, withMonitor}
 use Rattle.sheet.specs.Head.{headSheet, readHead}
 use Rattle.sheet.specs.Monitor.{monitorOk, monitorAt, takeMonitor}
 use Rattle.sheet.specs.Reader.{after, takeRecord, onFound, readRecords, firstFound, reading}
@@ -49,7 +49,7 @@ under-more u m = record { mode = u .mode; site = u .site; outputs = u .outputs; 
 take-none : (s : List ℕ) (head : ℕ) (h : Sheet) (kind start size : ℕ) (next : Sheet → Reading) → Under s head zero h
     → chained (takeRecord s h kind start size) next ≡ unless (eqb kind 2) 2 5
 unfolding takeRecord takeMonitor
-take-none s head h kind start size next u = rw (le-leb 6 (h .count) (omega (arith, u .count))) (go (eqb kind 2))
+take-none s head h kind start size next u = rw (le-leb maxMonitors (h .count) (omega (arith, u .count))) (go (eqb kind 2))
   where
     go : (a : Bool) → chained (cond a (refused SeventhMonitor) (refused Misplaced)) next ≡ unless a 2 5
     go true = refl
@@ -67,7 +67,7 @@ take-one : (s : List ℕ) (head room : ℕ) (h : Sheet) (kind start size : ℕ) 
     ≡ unless (eqb kind 2) 2 (orElse (monitorNumber s head start size) (verdictNumber (next (withMonitor h (monitorAt s start)) .verdict)))
 unfolding takeRecord takeMonitor
 take-one s head room h kind start size next u =
-    rw (lt-leb 6 (h .count) (omega (arith, u .count)), body-number s head (suc room) h start size u)
+    rw (lt-leb maxMonitors (h .count) (omega (arith, u .count)), body-number s head (suc room) h start size u)
     (go (eqb kind 2) (monitorOk s (h .mode) (h .site) (h .outputs) start size))
   where
     go : (a b : Bool)

@@ -15,7 +15,7 @@ use Rattle.records.specs.Tests.{by-test}
 use Rattle.records.specs.Lists.{tab, tab-eq, cat, cat-at}
 use Rattle.records.specs.Numbers.{Bytes, bytes-small, bytes-append, bytes-of, bytes-cat, u16At}
 use Rattle.records.specs.Cursor.{sizeAt, kindAt}
-use Rattle.records.specs.Limits.{horizonOk}
+use Rattle.records.specs.Limits.{maxLines, maxHorizon, maxMonitorStates, horizonOk}
 use Rattle.sheet.specs.Decoded.{Automaton, Decoded, noAutomaton, monitorOf, inputsOf, inputLines, lettersOf, letters, HeadOk, HorizonOk, MonitorOk, SheetOk, encodeHead, encodeMonitor, encode}
 use Rattle.sheet.specs.Layout.{verdictNumber}
 use Rattle.sheet.specs.Where.{automaton, placed, decoded}
@@ -101,8 +101,8 @@ module _ (s r : List ℕ) (d : Decoded) (o : HeadOk d) (e : s ≡ encodeHead d +
         site-back,
         outputs-back,
         horizon-back,
-        le-leb (d .horizon) 24 (h .most),
-        le-leb (inputLines d * d .horizon) 24 (h .product-most),
+        le-leb (d .horizon) maxHorizon (h .most),
+        le-leb (inputLines d * d .horizon) maxHorizon (h .product-most),
       )
 
   literals-back : tab (outputsAt s 4) (λ j. getD (headSheet s 4 .literals) j 0) ≡ d .literals
@@ -245,7 +245,7 @@ unfolding lettersOf
 letters-most d o a =
     by-test (eqb (a .role) 2) (λ e. rw e (omega arith))
     (λ e.
-    let most : d .site + d .outputs ≤ 6 = omega (arith, site-inputs (d .mode) (d .site) (d .outputs), o .lines) in
+    let most : d .site + d .outputs ≤ maxLines = omega (arith, site-inputs (d .mode) (d .site) (d .outputs), o .lines) in
     rw e (pow-mono most))
 
 bytes-head : (d : Decoded) → HeadOk d → HorizonOk d → Bytes (encodeHead d)
@@ -267,7 +267,7 @@ bytes-monitor : (d : Decoded) (a : Automaton) → HeadOk d → MonitorOk d a →
 unfolding encodeMonitor
 bytes-monitor d a h o =
     let n : ℕ = 4 + length (a .accept) + length (a .accept) * letters d a in
-    let most : length (a .accept) * letters d a ≤ 32 * 64 = mul-le-mul (o .states-most) (letters-most d h a) in
+    let most : length (a .accept) * letters d a ≤ maxMonitorStates * 64 = mul-le-mul (o .states-most) (letters-most d h a) in
     bytes-append (n % 256 ∷ n / 256 ∷ 2 ∷ 0 ∷ a .role ∷ a .weight ∷ length (a .accept) ∷ a .start ∷ []) (a .accept ++ rowBytes a)
     (bytes-small (n % 256 ∷ n / 256 ∷ 2 ∷ 0 ∷ a .role ∷ a .weight ∷ length (a .accept) ∷ a .start ∷ []) (omega arith))
     (bytes-append (a .accept) (rowBytes a)

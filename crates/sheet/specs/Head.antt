@@ -4,7 +4,7 @@ use mathlib.Core.Bool.{cond}
 use mathlib.Core.List.{List, [], _∷_}
 use Prim.Native.Nat.{ℕ}
 use lib.ListN.{replicate}
-use Rattle.records.specs.Limits.{horizonOk}
+use Rattle.records.specs.Limits.{maxMonitors, horizonOk}
 use Rattle.fields.specs.Places.{modeAt, siteAt, outputsAt, horizonAt, matchingAt}
 use Rattle.fields.specs.Lines.{inputsOf}
 use Rattle.fields.specs.Head.{headOk, literalAt}
@@ -29,7 +29,7 @@ headSheet s start =
           ∷ literalAt s start (outputsAt s start) 1
           ∷ literalAt s start (outputsAt s start) 2
           ∷ [];
-      monitors = replicate 6 noMonitor;
+      monitors = replicate maxMonitors noMonitor;
       count = 0;
     }
 

@@ -4,6 +4,7 @@ use mathlib.Core.Bool.{Bool, cond, _&&_}
 use mathlib.Core.List.{List}
 use Prim.Native.Nat.{ℕ, _-_, _*_}
 use lib.Dec.{leb}
+use Rattle.records.specs.Limits.{maxMonitors}
 use Rattle.fields.specs.Places.{monitorNumbers, roleAt, weightAt, statesAt, firstAt, acceptFrom, rowsFrom}
 use Rattle.fields.specs.Lines.{lettersOf}
 use Rattle.fields.specs.Monitor.{roleOk, statesOk, bytesMost}
@@ -37,5 +38,5 @@ monitorAt s start =
 -- a monitor is refused 5 before 4
 unfoldable pub takeMonitor : List ℕ → Sheet → ℕ → ℕ → Reading
 takeMonitor s h start size =
-    cond (leb 6 (h .count)) (refused SeventhMonitor)
+    cond (leb maxMonitors (h .count)) (refused SeventhMonitor)
     (cond (monitorOk s (h .mode) (h .site) (h .outputs) start size) (accepted (withMonitor h (monitorAt s start))) (refused BadMonitor))

@@ -7,11 +7,10 @@ use Prim.Native.Nat.{ℕ, zero, suc}
 use lib.Dec.{ltb, leb, eqb}
 use lib.ListN.{length}
 use Rattle.records.specs.Cursor.{readAt, foundNumber, sizeAt, kindAt, bodyAt, endAt}
-use Rattle.records.specs.Limits.{horizonOk}
+use Rattle.records.specs.Limits.{maxMonitors, horizonOk}
 use Rattle.fields.specs.Places.{modeAt, siteAt, outputsAt, horizonAt}
 use Rattle.fields.specs.Lines.{inputsOf}
 use Rattle.fields.specs.Head.{headOk}
-use Rattle.sheet.specs.Layout.{maxMonitors}
 use Rattle.sheet.specs.Monitor.{monitorOk}
 
 -- the ground's number where its test is not passed, else what is due after it

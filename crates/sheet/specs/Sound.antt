@@ -11,7 +11,7 @@ use borrow.Author.Tests.{lt-ltb}
 use Rattle.records.specs.Lists.{tab, length-tab, getD-tab, tab-ext, cat, part, part-add, part-whole}
 use Rattle.records.specs.Numbers.{Bytes}
 use Rattle.records.specs.Cursor.{sizeAt, kindAt, bodyAt, endAt, header-there}
-use Rattle.records.specs.Limits.{Horizon, horizon-facts}
+use Rattle.records.specs.Limits.{maxOutputs, maxMonitorStates, Horizon, horizon-facts}
 use Rattle.sheet.specs.Decoded.{Decoded, monitorOf, inputsOf, lettersOf, HeadOk, HorizonOk, MonitorOk, SheetOk, encodeHead, encodeMonitor, encode}
 use Rattle.sheet.specs.Layout.{verdictNumber}
 use Rattle.sheet.specs.Where.{width, automaton, decoded, Fits}
@@ -29,14 +29,14 @@ use Rattle.sheet.specs.declared.layout.Sheet.{Sheet}
 -- ---- the head
 
 -- the literals of a head's layout are the bytes after its five numbers
-pub literal-is : (s : List ℕ) (j : ℕ) → j < outputsAt s 4 → outputsAt s 4 ≤ 3 → getD (headSheet s 4 .literals) j 0 ≡ getD s (9 + j) 0
+pub literal-is : (s : List ℕ) (j : ℕ) → j < outputsAt s 4 → outputsAt s 4 ≤ maxOutputs → getD (headSheet s 4 .literals) j 0 ≡ getD s (9 + j) 0
 unfolding headSheet literalAt
 literal-is s zero h m = rw (lt-ltb 0 (outputsAt s 4) h)
 literal-is s (suc zero) h m = rw (lt-ltb 1 (outputsAt s 4) h)
 literal-is s (suc (suc zero)) h m = rw (lt-ltb 2 (outputsAt s 4) h)
 literal-is s (suc (suc (suc j))) h m = absurd (omega arith)
 
-literal-at : (s : List ℕ) (k j : ℕ) → j < outputsAt s 4 → outputsAt s 4 ≤ 3 → getD (decoded s (upto s k) .literals) j 0 ≡ getD s (9 + j) 0
+literal-at : (s : List ℕ) (k j : ℕ) → j < outputsAt s 4 → outputsAt s 4 ≤ maxOutputs → getD (decoded s (upto s k) .literals) j 0 ≡ getD s (9 + j) 0
 unfolding decoded upto
 literal-at s k j h m = getD-tab (outputsAt s 4) (λ i. getD (headSheet s 4 .literals) i 0) j 0 h ∙ literal-is s j h m
 
@@ -80,7 +80,7 @@ record PlaceOk (s : List ℕ) (h : Sheet) (m : Monitor) : Type 0 where
   role : Role (h .mode) (m .role) (m .weight)
   weight-byte : m .weight < 256
   states-least : 1 ≤ m .states
-  states-most : m .states ≤ 32
+  states-most : m .states ≤ maxMonitorStates
   start : m .start < m .states
   accept : (q : ℕ) → q < m .states → getD s (m .accept + q) 0 ≤ 1
   next : (k : ℕ) → k < m .states * width h m → getD s (m .rows + k) 0 < m .states

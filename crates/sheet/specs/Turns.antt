@@ -15,7 +15,7 @@ use borrow.Author.Tests.{eqb-true, leb-false, eq-eqb, lt-leb}
 use Rattle.records.specs.Tests.{by-test}
 use Rattle.records.specs.Bounded.{cases-suc}
 use Rattle.records.specs.Cursor.{sizeAt, kindAt, bodyAt, endAt, read-cases, read-end, read-record}
-use Rattle.records.specs.Limits.{horizonOk}
+use Rattle.records.specs.Limits.{maxMonitors, horizonOk}
 use Rattle.sheet.specs.Decoded.{inputsOf}
 use Rattle.sheet.specs.Layout.{noMonitor, accepted, refused, verdictNumber, withMonitor}
 use Rattle.sheet.specs.Where.{placed}
@@ -37,7 +37,7 @@ offset s (suc j) = endAt s (offset s j)
 
 -- the places of the first k monitors
 unfoldable pub places : List ℕ → ℕ → List Monitor
-places s zero = replicate 6 noMonitor
+places s zero = replicate maxMonitors noMonitor
 places s (suc k) = set (places s k) k (monitorAt s (bodyAt (offset s k)))
 
 -- the layout of the head and the first k monitors
@@ -65,7 +65,7 @@ pub record Chain (s : List ℕ) (k : ℕ) : Type 0 where
   pub kind : kindAt s 0 ≡ 1
   pub head : headOk s 4 (sizeAt s 0) ≡ true
   pub horizon : horizonOk (inputsOf (modeAt s 4) (siteAt s 4) (outputsAt s 4)) (horizonAt s 4) ≡ true
-  pub count : k ≤ 6
+  pub count : k ≤ maxMonitors
   pub turn : (j : ℕ) → j < k → Turn s j
   pub ends : offset s k ≡ length s
 
@@ -79,13 +79,13 @@ upto-more : (s : List ℕ) (k : ℕ) → withMonitor (upto s k) (monitorAt s (bo
 unfolding withMonitor upto places
 upto-more s k = rw (add-one k)
 
-length-places : (s : List ℕ) (k : ℕ) → length (places s k) ≡ 6
+length-places : (s : List ℕ) (k : ℕ) → length (places s k) ≡ maxMonitors
 unfolding places
 length-places s zero = refl
 length-places s (suc k) = length-set (places s k) k (monitorAt s (bodyAt (offset s k))) ∙ length-places s k
 
 -- monitor j lies where its record begins
-pub placed-at : (s : List ℕ) (k j : ℕ) → k ≤ 6 → j < k → placed (upto s k) j ≡ monitorAt s (bodyAt (offset s j))
+pub placed-at : (s : List ℕ) (k j : ℕ) → k ≤ maxMonitors → j < k → placed (upto s k) j ≡ monitorAt s (bodyAt (offset s j))
 unfolding upto places
 placed-at s zero j h l = absurd (omega arith)
 placed-at s (suc k) j h l =
@@ -93,13 +93,13 @@ placed-at s (suc k) j h l =
     (λ u. getD-set-other (places s k) k j (monitorAt s (bodyAt (offset s k))) noMonitor (omega arith) ∙ placed-at s k j (omega arith) u)
     (λ e. rw e (getD-set-same (places s k) k (monitorAt s (bodyAt (offset s k))) noMonitor (rw (length-places s k) (omega arith))))
 
-room : (s : List ℕ) (k : ℕ) → k < 6 → upto s k .count < 6
+room : (s : List ℕ) (k : ℕ) → k < maxMonitors → upto s k .count < maxMonitors
 unfolding upto
 room s k h = h
 
-below : (s : List ℕ) (k : ℕ) → leb 6 (upto s k .count) ≡ false → k < 6
+below : (s : List ℕ) (k : ℕ) → leb maxMonitors (upto s k .count) ≡ false → k < maxMonitors
 unfolding upto
-below s k e = leb-false 6 k e
+below s k e = leb-false maxMonitors k e
 
 -- every record takes some bytes
 pub offset-up : (s : List ℕ) (j m : ℕ) → offset s j + m ≤ offset s (j + m)
@@ -112,9 +112,9 @@ offset-up s j (suc m) = rw (add-suc j m) (omega (arith, offset-up s j m))
 -- a record that is accepted passes its tests
 take-passes : (s : List ℕ) (h : Sheet) (kind start size : ℕ) (next : Sheet → Reading)
     → chained (takeRecord s h kind start size) next ≡ 0
-    → (eqb kind 2 ≡ true) × (leb 6 (h .count) ≡ false) × (monitorOk s (h .mode) (h .site) (h .outputs) start size ≡ true)
+    → (eqb kind 2 ≡ true) × (leb maxMonitors (h .count) ≡ false) × (monitorOk s (h .mode) (h .site) (h .outputs) start size ≡ true)
 unfolding takeRecord takeMonitor
-take-passes s h kind start size next = go (eqb kind 2) (leb 6 (h .count)) (monitorOk s (h .mode) (h .site) (h .outputs) start size)
+take-passes s h kind start size next = go (eqb kind 2) (leb maxMonitors (h .count)) (monitorOk s (h .mode) (h .site) (h .outputs) start size)
   where
     go : (a b c : Bool)
         → chained
@@ -127,11 +127,11 @@ take-passes s h kind start size next = go (eqb kind 2) (leb 6 (h .count)) (monit
     go false b c e = absurd (omega arith)
 
 -- and one that passes them is accepted
-take-accepts : (s : List ℕ) (h : Sheet) (kind start size : ℕ) → kind ≡ 2 → h .count < 6
+take-accepts : (s : List ℕ) (h : Sheet) (kind start size : ℕ) → kind ≡ 2 → h .count < maxMonitors
     → monitorOk s (h .mode) (h .site) (h .outputs) start size ≡ true
     → takeRecord s h kind start size ≡ accepted (withMonitor h (monitorAt s start))
 unfolding takeRecord takeMonitor
-take-accepts s h kind start size e l m = rw (eq-eqb kind 2 e, lt-leb 6 (h .count) l, m)
+take-accepts s h kind start size e l m = rw (eq-eqb kind 2 e, lt-leb maxMonitors (h .count) l, m)
 
 head-passes : (s : List ℕ) (start size : ℕ) (next : Sheet → Reading) → chained (readHead s start size) next ≡ 0
     → (headOk s start size ≡ true)
@@ -152,7 +152,7 @@ head-passes s start size next =
 -- monitors j to k pass their tests and fill the bytes, and the reader says so
 record Walk (n : ℕ) (s : List ℕ) (j k : ℕ) : Type 0 where
   from : j ≤ k
-  count : k ≤ 6
+  count : k ≤ maxMonitors
   turn : (i : ℕ) → j ≤ i → i < k → Turn s i
   ends : offset s k ≡ length s
   whole : readRecords n s (upto s j) (offset s j) ≡ accepted (upto s k)
@@ -160,7 +160,7 @@ record Walk (n : ℕ) (s : List ℕ) (j k : ℕ) : Type 0 where
 turn-here : (s : List ℕ) (j k : ℕ) → Turn s j → ((i : ℕ) → suc j ≤ i → i < k → Turn s i) → (i : ℕ) → j ≤ i → i < k → Turn s i
 turn-here s j k t f i h l = elim (native.Mathlib.Decide.ℕ-discrete i j) [ yes e ↦ rw e t | no e ↦ f i (omega arith) l ]
 
-step-whole : (n : ℕ) (s : List ℕ) (j : ℕ) → j < 6 → Turn s j → offset s (suc j) ≤ length s
+step-whole : (n : ℕ) (s : List ℕ) (j : ℕ) → j < maxMonitors → Turn s j → offset s (suc j) ≤ length s
     → readRecords (suc n) s (upto s j) (offset s j) ≡ readRecords n s (upto s (suc j)) (offset s (suc j))
 unfolding readRecords onFound offset
 step-whole n s j l t h =
@@ -170,7 +170,7 @@ step-whole n s j l t h =
       upto-more s j,
     )
 
-walk-finds : (n : ℕ) (s : List ℕ) (j : ℕ) → j ≤ 6 → offset s j ≤ length s
+walk-finds : (n : ℕ) (s : List ℕ) (j : ℕ) → j ≤ maxMonitors → offset s j ≤ length s
     → verdictNumber (readRecords n s (upto s j) (offset s j) .verdict) ≡ 0 → (k : ℕ) × Walk n s j k
 unfolding readRecords onFound offset
 walk-finds zero s j h l e = absurd (omega arith)
@@ -179,7 +179,7 @@ walk-finds (suc n) s j h l e =
     (λ f m. (j, record { from = omega arith; count = h; turn = λ i u v. absurd (omega arith); ends = omega arith; whole = rw f }))
     (λ f m. absurd (let z : _≡_ {A = ℕ} 1 0 = rw f at e in omega arith))
     (λ f m.
-    let passes : (eqb (kindAt s (offset s j)) 2 ≡ true) × (leb 6 (upto s j .count) ≡ false)
+    let passes : (eqb (kindAt s (offset s j)) 2 ≡ true) × (leb maxMonitors (upto s j .count) ≡ false)
     × (monitorOk s (upto s j .mode) (upto s j .site) (upto s j .outputs) (bodyAt (offset s j)) (sizeAt s (offset s j)) ≡ true) =
     take-passes s (upto s j) (kindAt s (offset s j)) (bodyAt (offset s j)) (sizeAt s (offset s j))
     (λ h′. readRecords n s h′ (offset s (suc j))) (rw f at e) in
@@ -197,7 +197,7 @@ walk-finds (suc n) s j h l e =
       },
     ))
 
-walk-reaches : (m n : ℕ) (s : List ℕ) (j k : ℕ) → j + m ≡ k → m < n → k ≤ 6 → ((i : ℕ) → i < k → Turn s i) → offset s k ≡ length s
+walk-reaches : (m n : ℕ) (s : List ℕ) (j k : ℕ) → j + m ≡ k → m < n → k ≤ maxMonitors → ((i : ℕ) → i < k → Turn s i) → offset s k ≡ length s
     → readRecords n s (upto s j) (offset s j) ≡ accepted (upto s k)
 unfolding readRecords onFound
 walk-reaches m zero s j k q l h t e = absurd (omega arith)

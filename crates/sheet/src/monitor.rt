@@ -7,14 +7,16 @@ use fields::monitor::bytes_most;
 use fields::monitor::letters_of;
 use fields::monitor::role_ok;
 use fields::monitor::states_ok;
+use records::limits::Limits;
 ghost use mathlib.Core.Path.{_≡_};
 ghost use Prim.Native.Nat.{_+_, _<_, _≤_};
 ghost use lib.ListN.{length, getD};
+ghost use Rattle.records.specs.Limits.{maxLines};
 ghost use Rattle.sheet.specs.Monitor.{monitorOk, monitorAt, takeMonitor};
 
 // Whether a monitor's body is in order; its tables are looked at only where its numbers are.
 pub fn monitor_ok(s: &[u8], sheet: Sheet, start: usize, size: usize) -> bool
-    requires { ⌜ (sheet .site + sheet .outputs ≤ 6) × (start + size ≤ length (now s)) ⌝ }
+    requires { ⌜ (sheet .site + sheet .outputs ≤ maxLines) × (start + size ≤ length (now s)) ⌝ }
     ensures { λ r. ⌜ r ≡ monitorOk (now (s .entry)) (sheet .mode) (sheet .site) (sheet .outputs) start size ⌝ }
 {
     if size < 4 {
@@ -53,10 +55,10 @@ pub fn monitor_at(s: &[u8], start: usize) -> Monitor
 
 // A monitor's record, refused 5 before 4.
 pub fn take_monitor(s: &[u8], sheet: Sheet, start: usize, size: usize) -> Reading
-    requires { ⌜ (sheet .site + sheet .outputs ≤ 6) × (start + size ≤ length (now s)) ⌝ }
+    requires { ⌜ (sheet .site + sheet .outputs ≤ maxLines) × (start + size ≤ length (now s)) ⌝ }
     ensures { λ r. ⌜ r ≡ takeMonitor (now (s .entry)) sheet start size ⌝ }
 {
-    if Sheet::MONITORS <= sheet.count {
+    if Limits::MONITORS <= sheet.count {
         return Reading::refused(Refusal::SeventhMonitor);
     }
     if !monitor_ok(s, sheet, start, size) {

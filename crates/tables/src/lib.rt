@@ -8,13 +8,13 @@ use records::numbers::u16_at;
 ghost use mathlib.Core.Path.{_≡_};
 ghost use Prim.Native.Nat.{_+_, _<_, _≤_};
 ghost use lib.ListN.{length};
-ghost use Rattle.records.specs.Limits.{maxStates};
+ghost use Rattle.records.specs.Limits.{maxInputs, maxOutputs, maxStates};
 ghost use Rattle.records.specs.GuardTable.{rowAt};
 ghost use Rattle.tables.specs.Loadable.{sizeOk, fieldsOk, headOk, entryOk, entriesOk, rowOk, rowsOk, loadable, Sized};
 
 // Whether the count is in range, and the slice is as long as a table of so many states.
 fn size_ok(inputs: u8, count: u16, size: usize) -> bool
-    requires { ⌜ inputs ≤ 4 ⌝ }
+    requires { ⌜ inputs ≤ maxInputs ⌝ }
     ensures { λ r. ⌜ r ≡ sizeOk inputs count size ⌝ }
 {
     if count < 1 {
@@ -53,7 +53,7 @@ fn head_ok(t: &[u8]) -> bool
 
 // Whether the output and the next state of an entry are in range.
 pub fn entry_ok(t: &[u8], at: usize, outputs: u8, count: usize) -> bool
-    requires { ⌜ (at + 1 < length (now t)) × (outputs ≤ 3) ⌝ }
+    requires { ⌜ (at + 1 < length (now t)) × (outputs ≤ maxOutputs) ⌝ }
     ensures { λ r. ⌜ r ≡ entryOk (now (t .entry)) at outputs count ⌝ }
 {
     let output = t[at] as usize;
@@ -83,7 +83,7 @@ fn entries_ok(t: &[u8], inputs: u8, outputs: u8, count: usize, place: usize) -> 
 
 // Where the row of a state begins.
 fn row_at(inputs: u8, place: usize) -> usize
-    requires { ⌜ (inputs ≤ 4) × (place ≤ maxStates) ⌝ }
+    requires { ⌜ (inputs ≤ maxInputs) × (place ≤ maxStates) ⌝ }
     ensures { λ r. ⌜ r ≡ rowAt inputs place ⌝ }
 {
     10 + place * Layout { inputs }.row_length()

@@ -6,6 +6,7 @@ use Prim.Native.Nat.{_≤_, _*_, _^_}
 use lib.Pow.{pow-mono}
 use denote.Ref.{now}
 use Rattle.records.specs.Tests.{said}
+use Rattle.records.specs.Limits.{maxInputs}
 use Rattle.records.specs.Layout.{entryWidth, headerIs}
 use Rattle.records.specs.GuardTable.{rowAt, row-inside}
 use Rattle.tables.specs.Loadable.{rowOk}
@@ -17,7 +18,7 @@ abbrev entry : tie.After-pow2 → tie.Start
 entry c = c .before .before
 
 few : (c : tie.After-pow2) → c .pow2 .result ≤ 16
-few c = let m = pow-mono {i = entry c .args .inputs} {j = 4} (omega arith) in omega (arith, m, c .pow2 .ensures)
+few c = let m = pow-mono {i = entry c .args .inputs} {j = maxInputs} (omega arith) in omega (arith, m, c .pow2 .ensures)
 
 -- the test of the header is the definition's
 header-test : (c : tie.After-header-is) (f : Bool) → c .header-is .result ≡ f

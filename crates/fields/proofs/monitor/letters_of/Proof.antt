@@ -4,6 +4,7 @@ use native.Mathlib.Omega.{arith}
 use borrow.Author.Needs.{needs}
 use lib.Pow.{pow-mono}
 use Rattle.records.specs.Tests.{cases}
+use Rattle.records.specs.Limits.{maxLines}
 use Rattle.fields.specs.Lines.{lettersOf}
 use Rattle.fields.proofs.monitor.letters_of.Statement.{statement}
 use Rattle.fields.proofs.monitor.letters_of.Tie as tie
@@ -21,7 +22,7 @@ pow2-requires c κs = search needs
 returns-2 : tie.Need-returns-2
 unfolding lettersOf
 returns-2 c = let at = c .before .before .args in
-    (search (cases, c .pow2 .ensures), omega (arith, c .pow2 .ensures, pow-mono {i = at .site + at .outputs} {j = 6} (omega arith)))
+    (search (cases, c .pow2 .ensures), omega (arith, c .pow2 .ensures, pow-mono {i = at .site + at .outputs} {j = maxLines} (omega arith)))
 
 pub letters-of-spec : {M : Type 1} → statement M
 letters-of-spec = tie.close (tie.spec returns add-pow2 pow2-requires returns-2)
