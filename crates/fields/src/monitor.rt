@@ -25,10 +25,10 @@ pub fn letters_of(role: u8, site: u8, outputs: u8) -> usize
     requires { ⌜ site + outputs ≤ maxLines ⌝ }
     ensures { λ r. ⌜ (r ≡ lettersOf role site outputs) × (r ≤ 64) ⌝ }
 {
-    if role == 2 {
-        return 4;
+    match role {
+        2 => 4,
+        0 | 1 | 3..=255 => pow2(site + outputs),
     }
-    pow2(site + outputs)
 }
 
 // Whether states and start are in order, and the body's size is that of as many states and letters.

@@ -1,11 +1,9 @@
 // Where the parts of a guard table stand.
 use crate::numbers::pow2;
-use crate::numbers::u16_at;
 ghost use mathlib.Core.Path.{_≡_};
-ghost use Prim.Native.Nat.{_+_, _<_, _≤_};
-ghost use lib.ListN.{length};
+ghost use Prim.Native.Nat.{_≤_};
 ghost use Rattle.records.specs.Limits.{maxInputs, maxStates};
-ghost use Rattle.records.specs.Layout.{rowLength, tableLength, entryAt, headerIs};
+ghost use Rattle.records.specs.Layout.{rowLength, tableLength, entryAt};
 
 // The guard table's sizes.
 pub struct Layout {
@@ -39,15 +37,4 @@ impl Layout {
     {
         10 + place * self.row_length() + (4 + 2 * input)
     }
-}
-
-// Whether a record's header has this size and this kind.
-pub fn header_is(t: &[u8], at: usize, size: u16, kind: u16) -> bool
-    requires { ⌜ at + 3 < length (now t) ⌝ }
-    ensures { λ r. ⌜ r ≡ headerIs (now (t .entry)) at size kind ⌝ }
-{
-    if u16_at(t, at) == size {
-        return u16_at(t, at + 2) == kind;
-    }
-    false
 }

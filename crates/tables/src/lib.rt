@@ -1,6 +1,5 @@
 // Which slices are guard tables that a board may load.
 use records::layout::Layout;
-use records::layout::header_is;
 use records::limits::horizon_ok;
 use records::limits::lines_ok;
 use records::numbers::pow2;
@@ -45,10 +44,13 @@ fn head_ok(t: &[u8]) -> bool
     if t.len() < 10 {
         return false;
     }
-    if header_is(t, 0, 6, 16) {
-        return fields_ok(t[4], t[5], t[6], t[7], u16_at(t, 8), t.len());
+    if u16_at(t, 0) != 6 {
+        return false;
     }
-    false
+    match u16_at(t, 2) {
+        16 => fields_ok(t[4], t[5], t[6], t[7], u16_at(t, 8), t.len()),
+        0..=15 | 17..=65535 => false,
+    }
 }
 
 // Whether the output and the next state of an entry are in range.
@@ -94,11 +96,15 @@ fn row_ok(t: &[u8], inputs: u8, outputs: u8, count: usize, place: usize) -> bool
     requires { ⌜ Sized (now t) inputs outputs count × (place < count) ⌝ }
     ensures { λ r. ⌜ r ≡ rowOk (now (t .entry)) inputs outputs count place ⌝ }
 {
-    let size = 2 * pow2(inputs);
-    if header_is(t, row_at(inputs, place), size as u16, 17) {
-        return entries_ok(t, inputs, outputs, count, place);
+    let at = row_at(inputs, place);
+    let size = u16_at(t, at) as usize;
+    if size != 2 * pow2(inputs) {
+        return false;
     }
-    false
+    match u16_at(t, at + 2) {
+        17 => entries_ok(t, inputs, outputs, count, place),
+        0..=16 | 18..=65535 => false,
+    }
 }
 
 // Whether the row of every state is in order.
