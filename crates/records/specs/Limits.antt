@@ -66,7 +66,7 @@ pub lines-facts : (mode inputs outputs : ℕ) → linesOk mode inputs outputs �
 unfolding linesOk
 lines-facts m i o e =
     record {
-      mode-is = leb-true m 1 (search (and-left, and-right));
+      mode-is = leb-true m 1 (search and-left);
       inputs-most = leb-true i maxInputs (search (and-left, and-right));
       outputs-least = leb-true 1 o (search (and-left, and-right));
       outputs-most = leb-true o maxOutputs (search (and-left, and-right) depth 9);
@@ -82,6 +82,6 @@ pub horizon-facts : (inputs horizon : ℕ) → horizonOk inputs horizon ≡ true
 unfolding horizonOk
 horizon-facts i h e =
     record {
-      most = leb-true h maxHorizon (search (and-left, and-right));
+      most = leb-true h maxHorizon (search and-left);
       product-most = leb-true (i * h) maxHorizon (search (and-left, and-right));
     }
