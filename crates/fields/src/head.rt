@@ -1,4 +1,5 @@
 // A head's fields: grounds 3 and 6.
+use crate::places::Fixed;
 use records::limits::Limits;
 use records::limits::lines_ok;
 ghost use mathlib.Core.Path.{_≡_};
@@ -86,7 +87,7 @@ pub fn numbers_ok(mode: u8, site: u8, outputs: u8, matching: u8, size: usize) ->
     if !site_ok(mode, site, outputs) {
         return false;
     }
-    if size != 5 + (outputs as usize) {
+    if size != Fixed::HEAD + (outputs as usize) {
         return false;
     }
     mode == 1 || matching == 0
@@ -97,14 +98,14 @@ pub fn head_ok(s: &[u8], start: usize, size: usize) -> bool
     requires { ⌜ start + size ≤ length (now s) ⌝ }
     ensures { λ r. ⌜ r ≡ headOk (now (s .entry)) start size ⌝ }
 {
-    if size < 5 {
+    if size < Fixed::HEAD {
         return false;
     }
     let outputs = s[start + 2];
     if !numbers_ok(s[start], s[start + 1], outputs, s[start + 4], size) {
         return false;
     }
-    literals_ok(s, start + 5, outputs)
+    literals_ok(s, start + Fixed::HEAD, outputs)
 }
 
 // Literal j, 0 past the outputs.
@@ -113,7 +114,7 @@ pub fn literal_at(s: &[u8], start: usize, outputs: u8, j: u8) -> u8
     ensures { λ r. ⌜ r ≡ literalAt (now (s .entry)) start outputs j ⌝ }
 {
     if j < outputs {
-        return s[start + 5 + (j as usize)];
+        return s[start + Fixed::HEAD + (j as usize)];
     }
     0
 }

@@ -1,4 +1,5 @@
 // A monitor's fields: ground 4.
+use crate::places::Fixed;
 use records::limits::Limits;
 use records::numbers::pow2;
 ghost use mathlib.Core.Path.{_≡_};
@@ -46,7 +47,7 @@ pub fn states_ok(states: u8, start: u8, letters: usize, size: usize) -> bool
         return false;
     }
     let n = states as usize;
-    size == 4 + n + n * letters
+    size == Fixed::MONITOR + n + n * letters
 }
 
 // Whether each of n bytes is at most `most`.

@@ -1,24 +1,27 @@
-// The bounds on lines and horizon that sheets, tables and boards share.
+// Document 01's bounds by name, and the tests of lines and horizon that sheets, tables and boards share.
 ghost use mathlib.Core.Path.{_≡_};
 ghost use Rattle.records.specs.Limits.{linesOk, horizonOk};
 
-// Document 01's bounds on a sheet.
+// The largest numbers that a sheet may have.
 pub struct Limits {}
 
 impl Limits {
-    // Input lines, output lines, and both together.
+    // Input lines.
     pub const INPUTS: u8 = 4;
 
+    // Output lines.
     pub const OUTPUTS: u8 = 3;
 
+    // Input and output lines together.
     pub const LINES: u8 = 6;
 
     // The horizon; inputs × horizon too.
     pub const HORIZON: u8 = 24;
 
-    // Monitors, and the states of one.
+    // Monitors.
     pub const MONITORS: usize = 6;
 
+    // States of a monitor.
     pub const MONITOR_STATES: u8 = 32;
 
     // A literal is below this: a line, 8 more if off is preferred.
