@@ -7,9 +7,9 @@ use Prim.Native.Nat.{ℕ, _+_, _*_, _≤_, _<_}
 use native.Mathlib.Omega.{arith}
 use borrow.Author.Tests.{leb-true, ltb-true, eqb-true}
 use lib.Dec.{eqb}
-use lib.ListN.{getD}
 use Rattle.records.specs.Tests.{and-left, and-right}
-use Rattle.records.specs.Limits.{linesOk, lines-facts}
+use Rattle.records.specs.Limits.{maxInputs, maxOutputs, maxLines, maxMonitorStates, linesOk, lines-facts}
+use Rattle.fields.specs.Places.{headNumbers, modeAt, siteAt, outputsAt, matchingAt, monitorNumbers}
 use Rattle.fields.specs.Lines.{inputsOf}
 use Rattle.fields.specs.Head.{siteOk, numbersOk, headOk}
 use Rattle.fields.specs.Monitor.{statesOk}
@@ -25,10 +25,10 @@ site-le mode site outputs = go (eqb mode 1)
 
 -- the numbers of a head
 pub record Numbers (site outputs size : ℕ) : Type 0 where
-  pub site-most : site ≤ 4
-  pub outputs-most : outputs ≤ 3
-  pub lines-most : site + outputs ≤ 6
-  pub size-is : size ≡ 5 + outputs
+  pub site-most : site ≤ maxInputs
+  pub outputs-most : outputs ≤ maxOutputs
+  pub lines-most : site + outputs ≤ maxLines
+  pub size-is : size ≡ headNumbers + outputs
 
 pub numbers-facts : (mode site outputs matching size : ℕ) → numbersOk mode site outputs matching size ≡ true
     → Numbers site outputs size
@@ -36,25 +36,25 @@ unfolding numbersOk siteOk
 numbers-facts mode site outputs matching size e =
     let lines = lines-facts mode (inputsOf mode site outputs) outputs (search (and-left, and-right)) in
     record {
-      site-most = leb-true site 4 (search (and-left, and-right));
+      site-most = leb-true site maxInputs (search (and-left, and-right));
       outputs-most = lines .outputs-most;
       lines-most = omega (arith, lines .lines-most, site-le mode site outputs);
-      size-is = eqb-true size (5 + outputs) (search (and-left, and-right));
+      size-is = eqb-true size (headNumbers + outputs) (search (and-left, and-right));
     }
 
 pub head-facts : (s : List ℕ) (start size : ℕ) → headOk s start size ≡ true
-    → Numbers (getD s (start + 1) 0) (getD s (start + 2) 0) size
+    → Numbers (siteAt s start) (outputsAt s start) size
 unfolding headOk
 head-facts s start size e =
-    numbers-facts (getD s start 0) (getD s (start + 1) 0) (getD s (start + 2) 0) (getD s (start + 4) 0) size
+    numbers-facts (modeAt s start) (siteAt s start) (outputsAt s start) (matchingAt s start) size
     (search (and-left, and-right))
 
 -- the numbers of a monitor
 pub record States (states start letters size : ℕ) : Type 0 where
   pub states-least : 1 ≤ states
-  pub states-most : states ≤ 32
+  pub states-most : states ≤ maxMonitorStates
   pub start-below : start < states
-  pub size-is : size ≡ 4 + states + states * letters
+  pub size-is : size ≡ monitorNumbers + states + states * letters
 
 pub states-facts : (states start letters size : ℕ) → statesOk states start letters size ≡ true
     → States states start letters size
@@ -62,7 +62,7 @@ unfolding statesOk
 states-facts states start letters size e =
     record {
       states-least = leb-true 1 states (search and-left);
-      states-most = leb-true states 32 (search (and-left, and-right));
+      states-most = leb-true states maxMonitorStates (search (and-left, and-right));
       start-below = ltb-true start states (search (and-left, and-right));
-      size-is = eqb-true size (4 + states + states * letters) (search (and-left, and-right));
+      size-is = eqb-true size (monitorNumbers + states + states * letters) (search (and-left, and-right));
     }

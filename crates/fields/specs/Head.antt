@@ -6,12 +6,13 @@ use Prim.Native.Nat.{ℕ, _+_, _%_}
 use lib.Dec.{ltb, leb, eqb}
 use lib.ListN.{getD}
 use Rattle.records.specs.Bounded.{all}
-use Rattle.records.specs.Limits.{linesOk}
+use Rattle.records.specs.Limits.{maxInputs, maxOutputs, literalEnd, linesOk}
+use Rattle.fields.specs.Places.{headNumbers, modeAt, siteAt, outputsAt, matchingAt, literalsFrom}
 use Rattle.fields.specs.Lines.{inputsOf}
 
 -- mode, site lines and output lines in bounds
 unfoldable pub siteOk : ℕ → ℕ → ℕ → Bool
-siteOk mode site outputs = leb site 4 && (leb outputs 3 && linesOk mode (inputsOf mode site outputs) outputs)
+siteOk mode site outputs = leb site maxInputs && (leb outputs maxOutputs && linesOk mode (inputsOf mode site outputs) outputs)
 
 -- no literal before the one at j names its line
 unfoldable pub freshLine : List ℕ → ℕ → ℕ → Bool
@@ -20,7 +21,7 @@ freshLine s at j = all j (λ i. not (eqb (getD s (at + i) 0 % 8) (getD s (at + j
 -- a literal: a line below the outputs, 8 more if off is preferred, that no earlier literal names
 unfoldable pub literalOk : List ℕ → ℕ → ℕ → ℕ → Bool
 literalOk s at outputs j =
-    ltb (getD s (at + j) 0) 16 && (ltb (getD s (at + j) 0 % 8) outputs && freshLine s at j)
+    ltb (getD s (at + j) 0) literalEnd && (ltb (getD s (at + j) 0 % 8) outputs && freshLine s at j)
 
 unfoldable pub literalsOk : List ℕ → ℕ → ℕ → Bool
 literalsOk s at outputs = all outputs (λ j. literalOk s at outputs j)
@@ -28,15 +29,15 @@ literalsOk s at outputs = all outputs (λ j. literalOk s at outputs j)
 -- the fields that are numbers, the horizon aside, and the body's size: a match weight in mode 1 only
 unfoldable pub numbersOk : ℕ → ℕ → ℕ → ℕ → ℕ → Bool
 numbersOk mode site outputs matching size =
-    siteOk mode site outputs && (eqb size (5 + outputs) && (eqb mode 1 || eqb matching 0))
+    siteOk mode site outputs && (eqb size (headNumbers + outputs) && (eqb mode 1 || eqb matching 0))
 
 -- size and fields, the horizon aside
 unfoldable pub headOk : List ℕ → ℕ → ℕ → Bool
 headOk s start size =
-    leb 5 size
-    && (numbersOk (getD s start 0) (getD s (start + 1) 0) (getD s (start + 2) 0) (getD s (start + 4) 0) size
-    && literalsOk s (start + 5) (getD s (start + 2) 0))
+    leb headNumbers size
+    && (numbersOk (modeAt s start) (siteAt s start) (outputsAt s start) (matchingAt s start) size
+    && literalsOk s (literalsFrom start) (outputsAt s start))
 
 -- literal j of a head with so many outputs, 0 past them
 unfoldable pub literalAt : List ℕ → ℕ → ℕ → ℕ → ℕ
-literalAt s start outputs j = cond (ltb j outputs) (getD s (start + 5 + j) 0) 0
+literalAt s start outputs j = cond (ltb j outputs) (getD s (literalsFrom start + j) 0) 0

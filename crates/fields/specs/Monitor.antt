@@ -6,6 +6,8 @@ use Prim.Native.Nat.{ℕ, _+_, _*_}
 use lib.Dec.{ltb, leb, eqb}
 use lib.ListN.{getD}
 use Rattle.records.specs.Bounded.{all}
+use Rattle.records.specs.Limits.{maxMonitorStates}
+use Rattle.fields.specs.Places.{monitorNumbers}
 
 -- role and weight: hard with none, soft with one, a limit in mode 1 with none
 unfoldable pub roleOk : ℕ → ℕ → ℕ → Bool
@@ -16,7 +18,7 @@ roleOk mode role weight =
 -- states and start, and the size of a body with so many letters
 unfoldable pub statesOk : ℕ → ℕ → ℕ → ℕ → Bool
 statesOk states start letters size =
-    leb 1 states && (leb states 32 && (ltb start states && eqb size (4 + states + states * letters)))
+    leb 1 states && (leb states maxMonitorStates && (ltb start states && eqb size (monitorNumbers + states + states * letters)))
 
 -- each of n bytes is at most `most`
 unfoldable pub bytesMost : List ℕ → ℕ → ℕ → ℕ → Bool

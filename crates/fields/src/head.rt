@@ -1,14 +1,18 @@
 // A head's fields: grounds 3 and 6.
+use crate::places::Fixed;
+use records::limits::Limits;
 use records::limits::lines_ok;
 ghost use mathlib.Core.Path.{_≡_};
 ghost use Prim.Native.Nat.{_+_, _<_, _≤_};
 ghost use lib.ListN.{length};
+ghost use Rattle.records.specs.Limits.{maxInputs, maxOutputs};
+ghost use Rattle.fields.specs.Places.{literalsFrom};
 ghost use Rattle.fields.specs.Lines.{inputsOf};
 ghost use Rattle.fields.specs.Head.{siteOk, freshLine, literalOk, literalsOk, numbersOk, headOk, literalAt};
 
 // The guard's input lines: in mode 1 the proposal's lines come on top of the site's.
 pub fn inputs_of(mode: u8, site: u8, outputs: u8) -> u8
-    requires { ⌜ (site ≤ 4) × (outputs ≤ 3) ⌝ }
+    requires { ⌜ (site ≤ maxInputs) × (outputs ≤ maxOutputs) ⌝ }
     ensures { λ r. ⌜ r ≡ inputsOf mode site outputs ⌝ }
 {
     if mode == 1 {
@@ -21,10 +25,10 @@ pub fn inputs_of(mode: u8, site: u8, outputs: u8) -> u8
 pub fn site_ok(mode: u8, site: u8, outputs: u8) -> bool
     ensures { λ r. ⌜ r ≡ siteOk mode site outputs ⌝ }
 {
-    if 4 < site {
+    if Limits::INPUTS < site {
         return false;
     }
-    if 3 < outputs {
+    if Limits::OUTPUTS < outputs {
         return false;
     }
     lines_ok(mode, inputs_of(mode, site, outputs), outputs)
@@ -32,7 +36,7 @@ pub fn site_ok(mode: u8, site: u8, outputs: u8) -> bool
 
 // Whether no literal before the one at j names its line.
 pub fn fresh_line(s: &[u8], at: usize, j: usize) -> bool
-    requires { ⌜ (j ≤ 3) × (at + j < length (now s)) ⌝ }
+    requires { ⌜ (j ≤ maxOutputs) × (at + j < length (now s)) ⌝ }
     ensures { λ r. ⌜ r ≡ freshLine (now (s .entry)) at j ⌝ }
 {
     let mut i = 0;
@@ -47,11 +51,11 @@ pub fn fresh_line(s: &[u8], at: usize, j: usize) -> bool
 
 // Whether the literal at j names a line of the outputs that no earlier one names.
 pub fn literal_ok(s: &[u8], at: usize, outputs: u8, j: usize) -> bool
-    requires { ⌜ (j ≤ 3) × (at + j < length (now s)) ⌝ }
+    requires { ⌜ (j ≤ maxOutputs) × (at + j < length (now s)) ⌝ }
     ensures { λ r. ⌜ r ≡ literalOk (now (s .entry)) at outputs j ⌝ }
 {
     let literal = s[at + j];
-    if 16 <= literal {
+    if Limits::LITERAL_END <= literal {
         return false;
     }
     if outputs <= literal % 8 {
@@ -62,7 +66,7 @@ pub fn literal_ok(s: &[u8], at: usize, outputs: u8, j: usize) -> bool
 
 // Whether the literals name each output line once.
 pub fn literals_ok(s: &[u8], at: usize, outputs: u8) -> bool
-    requires { ⌜ (outputs ≤ 3) × (at + outputs ≤ length (now s)) ⌝ }
+    requires { ⌜ (outputs ≤ maxOutputs) × (at + outputs ≤ length (now s)) ⌝ }
     ensures { λ r. ⌜ r ≡ literalsOk (now (s .entry)) at outputs ⌝ }
 {
     let n = outputs as usize;
@@ -83,7 +87,7 @@ pub fn numbers_ok(mode: u8, site: u8, outputs: u8, matching: u8, size: usize) ->
     if !site_ok(mode, site, outputs) {
         return false;
     }
-    if size != 5 + (outputs as usize) {
+    if size != Fixed::HEAD + (outputs as usize) {
         return false;
     }
     mode == 1 || matching == 0
@@ -94,23 +98,23 @@ pub fn head_ok(s: &[u8], start: usize, size: usize) -> bool
     requires { ⌜ start + size ≤ length (now s) ⌝ }
     ensures { λ r. ⌜ r ≡ headOk (now (s .entry)) start size ⌝ }
 {
-    if size < 5 {
+    if size < Fixed::HEAD {
         return false;
     }
     let outputs = s[start + 2];
     if !numbers_ok(s[start], s[start + 1], outputs, s[start + 4], size) {
         return false;
     }
-    literals_ok(s, start + 5, outputs)
+    literals_ok(s, start + Fixed::HEAD, outputs)
 }
 
 // Literal j, 0 past the outputs.
 pub fn literal_at(s: &[u8], start: usize, outputs: u8, j: u8) -> u8
-    requires { ⌜ (outputs ≤ 3) × (start + 5 + outputs ≤ length (now s)) ⌝ }
+    requires { ⌜ (outputs ≤ maxOutputs) × (literalsFrom start + outputs ≤ length (now s)) ⌝ }
     ensures { λ r. ⌜ r ≡ literalAt (now (s .entry)) start outputs j ⌝ }
 {
     if j < outputs {
-        return s[start + 5 + (j as usize)];
+        return s[start + Fixed::HEAD + (j as usize)];
     }
     0
 }

@@ -1,20 +1,13 @@
 // A monitor's fields: ground 4.
+use crate::places::Fixed;
+use records::limits::Limits;
 use records::numbers::pow2;
 ghost use mathlib.Core.Path.{_≡_};
 ghost use Prim.Native.Nat.{_+_, _≤_};
 ghost use lib.ListN.{length};
+ghost use Rattle.records.specs.Limits.{maxLines};
 ghost use Rattle.fields.specs.Lines.{lettersOf};
 ghost use Rattle.fields.specs.Monitor.{roleOk, statesOk, bytesMost};
-
-// The bounds of a monitor.
-pub struct Bounds {
-    pub states: u8,
-}
-
-impl Bounds {
-    // A monitor has at most so many states.
-    pub const STATES: u8 = 32;
-}
 
 // Whether role and weight are in order: hard with no weight, soft with one, a limit in mode 1 with none.
 pub fn role_ok(mode: u8, role: u8, weight: u8) -> bool
@@ -30,13 +23,13 @@ pub fn role_ok(mode: u8, role: u8, weight: u8) -> bool
 
 // The letters that a monitor reads.
 pub fn letters_of(role: u8, site: u8, outputs: u8) -> usize
-    requires { ⌜ site + outputs ≤ 6 ⌝ }
+    requires { ⌜ site + outputs ≤ maxLines ⌝ }
     ensures { λ r. ⌜ (r ≡ lettersOf role site outputs) × (r ≤ 64) ⌝ }
 {
-    if role == 2 {
-        return 4;
+    match role {
+        2 => 4,
+        0 | 1 | 3..=255 => pow2(site + outputs),
     }
-    pow2(site + outputs)
 }
 
 // Whether states and start are in order, and the body's size is that of as many states and letters.
@@ -47,14 +40,14 @@ pub fn states_ok(states: u8, start: u8, letters: usize, size: usize) -> bool
     if states < 1 {
         return false;
     }
-    if Bounds::STATES < states {
+    if Limits::MONITOR_STATES < states {
         return false;
     }
     if states <= start {
         return false;
     }
     let n = states as usize;
-    size == 4 + n + n * letters
+    size == Fixed::MONITOR + n + n * letters
 }
 
 // Whether each of n bytes is at most `most`.

@@ -16,7 +16,7 @@ use Rattle.sheet.specs.Head.{headSheet, readHead}
 use Rattle.fields.specs.Monitor.{roleOk, statesOk, bytesMost}
 use Rattle.sheet.specs.Monitor.{monitorOk, monitorAt, takeMonitor}
 use Rattle.sheet.specs.Reader.{takeRecord, onFound, readRecords, firstFound, reading}
-use Rattle.sheet.specs.Refusals.{headNumber, recordNumber, recordsNumber, sheetNumber}
+use Rattle.sheet.specs.Refusals.{headNumber, monitorNumber, recordsNumber, sheetNumber}
 use Rattle.sheet.specs.Where.{automaton, decoded}
 use Rattle.product.specs.Step.{proposal, differs, siteLetter, nextState, accepts, shadowed, shadowMoved, sound, limitLetter, letterOf, monitorMoved, moved, advance, broken, firstTuple, line, equalLines, softReward}
 use Rattle.product.specs.States.{same}
@@ -49,7 +49,7 @@ lists = tt
 unfoldable pub sheets : Unit {0}
 unfolding lists encode encodeHead encodeMonitor readAt inputsOf lettersOf siteOk freshLine literalOk literalsOk numbersOk headOk literalAt headSheet readHead
     withMonitor roleOk statesOk bytesMost monitorOk monitorAt takeMonitor takeRecord onFound readRecords firstFound reading
-    headNumber recordNumber recordsNumber sheetNumber automaton decoded sheetOf
+    headNumber monitorNumber recordsNumber sheetNumber automaton decoded sheetOf
 sheets = tt
 
 -- steps, product states, rounds and the supervisor table

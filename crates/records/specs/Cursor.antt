@@ -1,14 +1,14 @@
 -- Records: a two-byte length of the body, a two-byte kind, then the body. A cursor finds one at a time.
 -- Assumes nothing.
 use mathlib.Core.Path.{_≡_, ap}
-use mathlib.Core.Bool.{cond}
+use mathlib.Core.Bool.{Bool, true, false, cond, _&&_, _||_}
 use mathlib.Core.List.{List, _++_}
-use Prim.Native.Nat.{ℕ, _+_, _-_, _*_, _≤_}
+use Prim.Native.Nat.{ℕ, _+_, _-_, _*_, _≤_, _<_}
 use native.Mathlib.Nat.{add-zero, add-assoc}
 use native.Mathlib.Omega.{arith}
 use lib.Dec.{ltb, leb}
 use lib.ListN.{length, getD}
-use borrow.Author.Tests.{leb-true, leb-false, ltb-false, le-leb, lt-leb, le-ltb}
+use borrow.Author.Tests.{leb-true, leb-false, ltb-true, ltb-false, le-leb, lt-leb, lt-ltb, le-ltb}
 use Rattle.records.specs.Tests.{by-test}
 use Rattle.records.specs.Lists.{tab, part}
 use Rattle.records.specs.Numbers.{Bytes, u16At, u16Bytes, u16-low, u16-high}
@@ -20,19 +20,49 @@ use Rattle.records.specs.declared.cursor.Found.the-variants.{Record, Tru
 abbrev pub header : ℕ → ℕ → List ℕ
 header size kind = u16Bytes size ++ u16Bytes kind
 
+abbrev pub headerSize : ℕ
+headerSize = 4
+
+-- the record that begins at an offset: the size of its body, its kind, where its body begins, and where it ends
+abbrev pub sizeAt : List ℕ → ℕ → ℕ
+sizeAt s at = u16At s at
+
+abbrev pub kindAt : List ℕ → ℕ → ℕ
+kindAt s at = u16At s (at + 2)
+
+abbrev pub bodyAt : ℕ → ℕ
+bodyAt at = at + headerSize
+
+abbrev pub endAt : List ℕ → ℕ → ℕ
+endAt s at = bodyAt at + sizeAt s at
+
+-- what a cursor finds where a record lies inside the bytes
+abbrev pub recordAt : List ℕ → ℕ → Found
+recordAt s at = Record (kindAt s at) (bodyAt at) (sizeAt s at) (record { at = endAt s at })
+
 -- what a cursor finds: the end; too few bytes for a record; or a record
 unfoldable pub readAt : List ℕ → ℕ → Found
 readAt s at =
     cond (leb (length s) at) End
-    (cond (ltb (length s - at) 4) Truncated
-    (cond (ltb (length s - (at + 4)) (u16At s at)) Truncated
-    (Record (u16At s (at + 2)) (at + 4) (u16At s at) (record { at = at + 4 + u16At s at }))))
+    (cond (ltb (length s - at) headerSize) Truncated
+    (cond (ltb (length s - bodyAt at) (sizeAt s at)) Truncated (recordAt s at)))
+
+-- ground 1: 1 to 3 bytes left for a record, or its body runs past the end
+unfoldable pub isCut : List ℕ → ℕ → Bool
+isCut s at = ltb at (length s) && (ltb (length s) (bodyAt at) || ltb (length s) (endAt s at))
 
 -- document 01's number of what was found, 0 for no refusal
 abbrev pub foundNumber : Found → ℕ
 foundNumber (Record kind start size next) = 0
 foundNumber Truncated = 1
 foundNumber End = 0
+
+-- what a cursor promises of what it finds, for every slice and every offset
+pub record Finds (s : List ℕ) (at : ℕ) (r : Found) : Type 0 where
+  -- the answer is the model's
+  pub whole : r ≡ readAt s at
+  -- refused by document 01's number
+  pub number : foundNumber r ≡ cond (isCut s at) 1 0
 
 -- where a record lies: its parts are read where they stand, and its body ends within the bytes
 pub record Lies (s : List ℕ) (at kind start size : ℕ) (next : Cursor) : Type 0 where
@@ -42,19 +72,15 @@ pub record Lies (s : List ℕ) (at kind start size : ℕ) (next : Cursor) : Type
   pub is-next : next .at ≡ start + size
   pub inside : next .at ≤ length s
 
--- what a cursor finds where a record lies inside the bytes
-abbrev pub recordAt : List ℕ → ℕ → Found
-recordAt s at = Record (u16At s (at + 2)) (at + 4) (u16At s at) (record { at = at + 4 + u16At s at })
-
 -- the three that a cursor can find, each with what it says of the bytes
 pub read-cases {ℓ} : {X : Type ℓ} (s : List ℕ) (at : ℕ) → (readAt s at ≡ End → length s ≤ at → X)
-    → (readAt s at ≡ Truncated → X)
-    → (readAt s at ≡ recordAt s at → at + 4 + u16At s at ≤ length s → X) → X
+    → (readAt s at ≡ Truncated → at < length s → X)
+    → (readAt s at ≡ recordAt s at → endAt s at ≤ length s → X) → X
 unfolding readAt
 read-cases s at end short found =
     by-test (leb (length s) at) (λ e. end (rw e) (leb-true (length s) at e))
-    (λ e. by-test (ltb (length s - at) 4) (λ f. short (rw (e, f)))
-    (λ f. by-test (ltb (length s - (at + 4)) (u16At s at)) (λ g. short (rw (e, f, g)))
+    (λ e. by-test (ltb (length s - at) 4) (λ f. short (rw (e, f)) (leb-false (length s) at e))
+    (λ f. by-test (ltb (length s - (at + 4)) (u16At s at)) (λ g. short (rw (e, f, g)) (leb-false (length s) at e))
     (λ g. found (rw (e, f, g))
     (omega (arith, leb-false (length s) at e, ltb-false (length s - at) 4 f, ltb-false (length s - (at + 4)) (u16At s at) g)))))
 
@@ -64,7 +90,7 @@ pub lies : (s : List ℕ) (at : ℕ) {kind start size : ℕ} {next : Cursor} →
 lies s at {kind} {start} {size} {next} e =
     read-cases s at
     (λ f h. absurd (let z : _≡_ {A = ℕ} 0 1 = cc in omega arith))
-    (λ f. absurd (let z : _≡_ {A = ℕ} 0 1 = cc in omega arith))
+    (λ f h. absurd (let z : _≡_ {A = ℕ} 0 1 = cc in omega arith))
     (λ f h.
     let k : kind ≡ u16At s (at + 2) = cc in
     let b : start ≡ at + 4 = cc in
@@ -72,6 +98,27 @@ lies s at {kind} {start} {size} {next} e =
     let n : next ≡ record { at = at + 4 + u16At s at } = cc in
     let m : next .at ≡ at + 4 + u16At s at = ap (λ (x : Cursor). x .at) n in
     record { is-kind = k; is-start = b; is-size = z; is-next = omega arith; inside = omega arith })
+
+-- what is found has document 01's number: 1 exactly where the record is cut
+found-number : (s : List ℕ) (at : ℕ) → foundNumber (readAt s at) ≡ cond (isCut s at) 1 0
+unfolding readAt isCut
+found-number s at =
+    by-test (leb (length s) at) (λ e. rw (e, le-ltb at (length s) (leb-true (length s) at e)))
+    (λ e.
+    let left : ltb at (length s) ≡ true = lt-ltb at (length s) (leb-false (length s) at e) in
+    by-test (ltb (length s - at) 4)
+    (λ f. rw (e, f, left, lt-ltb (length s) (at + 4) (omega (arith, ltb-true (length s - at) 4 f))))
+    (λ f.
+    let headed : at + 4 ≤ length s = omega (arith, ltb-false (length s - at) 4 f) in
+    let whole : ltb (length s) (at + 4) ≡ false = le-ltb (length s) (at + 4) headed in
+    let past = at + 4 + u16At s at in
+    by-test (ltb (length s - (at + 4)) (u16At s at))
+    (λ g. rw (e, f, g, left, whole, lt-ltb (length s) past (omega (arith, ltb-true (length s - (at + 4)) (u16At s at) g))))
+    (λ g. rw (e, f, g, left, whole, le-ltb (length s) past (omega (arith, ltb-false (length s - (at + 4)) (u16At s at) g))))))
+
+-- so an answer that is the model's keeps the promise
+pub finds : {s : List ℕ} {at : ℕ} {r : Found} → r ≡ readAt s at → Finds s at r
+finds {s} {at} e = record { whole = e; number = rw e (found-number s at) }
 
 -- at the end of the bytes
 pub read-end : (s : List ℕ) (at : ℕ) → length s ≤ at → readAt s at ≡ End

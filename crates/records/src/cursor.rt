@@ -5,7 +5,7 @@ ghost use mathlib.Core.Path.{_≡_};
 ghost use Prim.Native.Nat.{_+_, _<_};
 ghost use lib.ListN.{length};
 ghost use lib.Seq.{sets};
-ghost use Rattle.records.specs.Cursor.{readAt, header};
+ghost use Rattle.records.specs.Cursor.{Finds, header};
 
 pub struct Cursor {
     pub at: usize,
@@ -34,7 +34,7 @@ impl Cursor {
     }
 
     pub fn read(self, s: &[u8]) -> Found
-        ensures { λ r. ⌜ r ≡ readAt (now (s .entry)) (self .at) ⌝ }
+        ensures { λ r. ⌜ Finds (now (s .entry)) (self .at) r ⌝ }
     {
         let at = self.at;
         if s.len() <= at {

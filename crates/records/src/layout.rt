@@ -1,11 +1,9 @@
 // Where the parts of a guard table stand.
 use crate::numbers::pow2;
-use crate::numbers::u16_at;
 ghost use mathlib.Core.Path.{_≡_};
-ghost use Prim.Native.Nat.{_+_, _<_, _≤_};
-ghost use lib.ListN.{length};
-ghost use Rattle.records.specs.Limits.{maxStates};
-ghost use Rattle.records.specs.Layout.{rowLength, tableLength, entryAt, headerIs};
+ghost use Prim.Native.Nat.{_≤_};
+ghost use Rattle.records.specs.Limits.{maxInputs, maxStates};
+ghost use Rattle.records.specs.Layout.{rowLength, tableLength, entryAt};
 
 // The guard table's sizes.
 pub struct Layout {
@@ -18,7 +16,7 @@ impl Layout {
 
     // The bytes of a row's record: its header, then output and next state for each input.
     pub fn row_length(self) -> usize
-        requires { ⌜ self .inputs ≤ 4 ⌝ }
+        requires { ⌜ self .inputs ≤ maxInputs ⌝ }
         ensures { λ r. ⌜ (r ≡ rowLength (self .inputs)) × (r ≤ 36) ⌝ }
     {
         4 + 2 * pow2(self.inputs)
@@ -26,7 +24,7 @@ impl Layout {
 
     // The bytes of a table with so many states.
     pub fn table_length(self, count: usize) -> usize
-        requires { ⌜ (self .inputs ≤ 4) × (count ≤ maxStates) ⌝ }
+        requires { ⌜ (self .inputs ≤ maxInputs) × (count ≤ maxStates) ⌝ }
         ensures { λ r. ⌜ r ≡ tableLength (self .inputs) count ⌝ }
     {
         10 + count * self.row_length()
@@ -34,20 +32,9 @@ impl Layout {
 
     // Where the entry of a state and an input stands.
     pub fn entry_at(self, place: usize, input: usize) -> usize
-        requires { ⌜ (self .inputs ≤ 4) × ((place ≤ maxStates) × (input ≤ 255)) ⌝ }
+        requires { ⌜ (self .inputs ≤ maxInputs) × ((place ≤ maxStates) × (input ≤ 255)) ⌝ }
         ensures { λ r. ⌜ r ≡ entryAt (self .inputs) place input ⌝ }
     {
         10 + place * self.row_length() + (4 + 2 * input)
     }
-}
-
-// Whether a record's header has this size and this kind.
-pub fn header_is(t: &[u8], at: usize, size: u16, kind: u16) -> bool
-    requires { ⌜ at + 3 < length (now t) ⌝ }
-    ensures { λ r. ⌜ r ≡ headerIs (now (t .entry)) at size kind ⌝ }
-{
-    if u16_at(t, at) == size {
-        return u16_at(t, at + 2) == kind;
-    }
-    false
 }

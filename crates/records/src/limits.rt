@@ -1,6 +1,32 @@
-// The bounds on lines and horizon that sheets, tables and boards share.
+// Document 01's bounds by name, and the tests of lines and horizon that sheets, tables and boards share.
 ghost use mathlib.Core.Path.{_≡_};
 ghost use Rattle.records.specs.Limits.{linesOk, horizonOk};
+
+// The largest numbers that a sheet may have.
+pub struct Limits {}
+
+impl Limits {
+    // Input lines.
+    pub const INPUTS: u8 = 4;
+
+    // Output lines.
+    pub const OUTPUTS: u8 = 3;
+
+    // Input and output lines together.
+    pub const LINES: u8 = 6;
+
+    // The horizon; inputs × horizon too.
+    pub const HORIZON: u8 = 24;
+
+    // Monitors.
+    pub const MONITORS: usize = 6;
+
+    // States of a monitor.
+    pub const MONITOR_STATES: u8 = 32;
+
+    // A literal is below this: a line, 8 more if off is preferred.
+    pub const LITERAL_END: u8 = 16;
+}
 
 // Whether mode, input lines and output lines are in bounds.
 pub fn lines_ok(mode: u8, inputs: u8, outputs: u8) -> bool
@@ -9,16 +35,16 @@ pub fn lines_ok(mode: u8, inputs: u8, outputs: u8) -> bool
     if 1 < mode {
         return false;
     }
-    if 4 < inputs {
+    if Limits::INPUTS < inputs {
         return false;
     }
     if outputs < 1 {
         return false;
     }
-    if 3 < outputs {
+    if Limits::OUTPUTS < outputs {
         return false;
     }
-    if 6 < inputs + outputs {
+    if Limits::LINES < inputs + outputs {
         return false;
     }
     mode == 0 || outputs <= inputs
@@ -28,8 +54,8 @@ pub fn lines_ok(mode: u8, inputs: u8, outputs: u8) -> bool
 pub fn horizon_ok(inputs: u8, horizon: u8) -> bool
     ensures { λ r. ⌜ r ≡ horizonOk inputs horizon ⌝ }
 {
-    if 24 < horizon {
+    if Limits::HORIZON < horizon {
         return false;
     }
-    (inputs as u16) * (horizon as u16) <= 24
+    (inputs as u16) * (horizon as u16) <= Limits::HORIZON as u16
 }

@@ -7,9 +7,8 @@ use Prim.Native.Nat.{ℕ, _≤_}
 use borrow.Author.Tests.{leb-true}
 use Rattle.records.specs.Tests.{and-left}
 use Rattle.sheet.specs.Monitor.{monitorOk}
-use Rattle.sheet.specs.declared.layout.Sheet.{Sheet}
 
 -- a monitor's body holds its four numbers
-pub monitor-least : (s : List ℕ) (h : Sheet) (start size : ℕ) → monitorOk s h start size ≡ true → 4 ≤ size
+pub monitor-least : (s : List ℕ) (mode site outputs start size : ℕ) → monitorOk s mode site outputs start size ≡ true → 4 ≤ size
 unfolding monitorOk
-monitor-least s h start size e = leb-true 4 size (search and-left)
+monitor-least s mode site outputs start size e = leb-true 4 size (search and-left)

@@ -6,14 +6,15 @@ use mathlib.Core.List.{List}
 use Prim.Native.Nat.{ℕ, zero, suc, _+_, _-_, _≤_, _<_}
 use native.Mathlib.Omega.{arith}
 use lib.Dec.{leb, eqb}
-use lib.ListN.{length, getD}
+use lib.ListN.{length}
 use Rattle.records.specs.Cursor.{readAt, Lies, lies}
-use Rattle.records.specs.Limits.{horizonOk}
+use Rattle.records.specs.Limits.{maxLines, maxMonitors, horizonOk}
 use Rattle.records.specs.declared.cursor.Cursor.{Cursor}
 use Rattle.records.specs.declared.cursor.Found.{Found}
 use Rattle.records.specs.declared.cursor.Found.the-variants as found
 use Rattle.sheet.specs.Decoded.{inputsOf}
 use Rattle.sheet.specs.Layout.{withMonitor, accepted, refused}
+use Rattle.fields.specs.Places.{modeAt, siteAt, outputsAt, horizonAt}
 use Rattle.fields.specs.Head.{headOk}
 use Rattle.sheet.specs.Head.{headSheet, readHead}
 use Rattle.sheet.specs.Monitor.{monitorOk, monitorAt, takeMonitor}
@@ -33,16 +34,16 @@ never {ℓ} : {X : Type ℓ} {g : Refusal} → Refused g ≡ Accepted → X
 never e = absurd (let z : _≡_ {A = ℕ} 0 1 = cc in omega arith)
 
 -- a head that was accepted has at most six of them
-pub head-lines : (s : List ℕ) (start size : ℕ) → readHead s start size .verdict ≡ Accepted → lines (readHead s start size .sheet) ≤ 6
+pub head-lines : (s : List ℕ) (start size : ℕ) → readHead s start size .verdict ≡ Accepted → lines (readHead s start size .sheet) ≤ maxLines
 unfolding readHead headSheet
 head-lines s start size e =
     go (headOk s start size)
-    (horizonOk (inputsOf (getD s start 0) (getD s (start + 1) 0) (getD s (start + 2) 0)) (getD s (start + 3) 0))
+    (horizonOk (inputsOf (modeAt s start) (siteAt s start) (outputsAt s start)) (horizonAt s start))
     (λ t. head-facts s start size t .lines-most) e
   where
-    go : (a b : Bool) → (a ≡ true → lines (headSheet s start) ≤ 6)
+    go : (a b : Bool) → (a ≡ true → lines (headSheet s start) ≤ maxLines)
         → cond a (cond b (accepted (headSheet s start)) (refused LongHorizon)) (refused BadHead) .verdict ≡ Accepted
-        → lines (cond a (cond b (accepted (headSheet s start)) (refused LongHorizon)) (refused BadHead) .sheet) ≤ 6
+        → lines (cond a (cond b (accepted (headSheet s start)) (refused LongHorizon)) (refused BadHead) .sheet) ≤ maxLines
     go true true f e = f refl
     go true false f e = never e
     go false b f e = never e
@@ -51,7 +52,7 @@ head-lines s start size e =
 pub same-lines : (s : List ℕ) (h : Sheet) (kind start size : ℕ) → takeRecord s h kind start size .verdict ≡ Accepted
     → lines (takeRecord s h kind start size .sheet) ≡ lines h
 unfolding takeRecord takeMonitor withMonitor
-same-lines s h kind start size e = go (eqb kind 2) (leb 6 (h .count)) (monitorOk s h start size) e
+same-lines s h kind start size e = go (eqb kind 2) (leb maxMonitors (h .count)) (monitorOk s (h .mode) (h .site) (h .outputs) start size) e
   where
     taken : Bool → Bool → Bool → Reading
     taken a b d =
@@ -75,12 +76,12 @@ unroll (suc n) s h at e l =
 
 -- the walk from head and offset has come to a sheet and an offset: from there it gives the same
 pub record Walked (s : List ℕ) (head : Sheet) (from : ℕ) (sheet : Sheet) (at : ℕ) : Type 0 where
-  pub lines-most : lines sheet ≤ 6
+  pub lines-most : lines sheet ≤ maxLines
   pub fuel : ℕ
   pub enough : length s - at < fuel
   pub same : readRecords fuel s sheet at ≡ readRecords (suc (length s)) s head from
 
-pub begin : (s : List ℕ) (head : Sheet) (from : ℕ) → lines head ≤ 6 → Walked s head from head from
+pub begin : (s : List ℕ) (head : Sheet) (from : ℕ) → lines head ≤ maxLines → Walked s head from head from
 begin s head from h = record { lines-most = h; fuel = suc (length s); enough = omega arith; same = refl }
 
 module _ {s : List ℕ} {head : Sheet} {from : ℕ} {sheet : Sheet} {at : ℕ} (w : Walked s head from sheet at) where

@@ -14,10 +14,12 @@ use borrow.Author.Tests.{le-leb}
 use Rattle.records.specs.Tests.{by-test}
 use Rattle.records.specs.Lists.{tab, tab-eq, cat, cat-at}
 use Rattle.records.specs.Numbers.{Bytes, bytes-small, bytes-append, bytes-of, bytes-cat, u16At}
-use Rattle.records.specs.Limits.{horizonOk}
+use Rattle.records.specs.Cursor.{sizeAt, kindAt}
+use Rattle.records.specs.Limits.{maxLines, maxHorizon, maxMonitorStates, horizonOk}
 use Rattle.sheet.specs.Decoded.{Automaton, Decoded, noAutomaton, monitorOf, inputsOf, inputLines, lettersOf, letters, HeadOk, HorizonOk, MonitorOk, SheetOk, encodeHead, encodeMonitor, encode}
 use Rattle.sheet.specs.Layout.{verdictNumber}
 use Rattle.sheet.specs.Where.{automaton, placed, decoded}
+use Rattle.fields.specs.Places.{modeAt, siteAt, outputsAt, horizonAt, matchingAt, literalsFrom}
 use Rattle.fields.specs.Head.{headOk}
 use Rattle.sheet.specs.Head.{headSheet}
 use Rattle.sheet.specs.Reader.{reading}
@@ -29,31 +31,31 @@ use Rattle.sheet.specs.Written.{rowBytes, length-monitor, size-back, kin
 -- ---- the head
 
 module _ (s r : List ℕ) (d : Decoded) (o : HeadOk d) (e : s ≡ encodeHead d ++ r) where
-  mode-back : getD s 4 0 ≡ d .mode
+  mode-back : modeAt s 4 ≡ d .mode
   unfolding encodeHead
   mode-back = rw e
 
-  site-back : getD s 5 0 ≡ d .site
+  site-back : siteAt s 4 ≡ d .site
   unfolding encodeHead
   site-back = rw e
 
-  outputs-back : getD s 6 0 ≡ d .outputs
+  outputs-back : outputsAt s 4 ≡ d .outputs
   unfolding encodeHead
   outputs-back = rw e
 
-  horizon-back : getD s 7 0 ≡ d .horizon
+  horizon-back : horizonAt s 4 ≡ d .horizon
   unfolding encodeHead
   horizon-back = rw e
 
-  matching-back : getD s 8 0 ≡ d .matching
+  matching-back : matchingAt s 4 ≡ d .matching
   unfolding encodeHead
   matching-back = rw e
 
-  head-size : u16At s 0 ≡ 5 + d .outputs
+  head-size : sizeAt s 0 ≡ 5 + d .outputs
   unfolding encodeHead u16At
   head-size = rw e (omega arith)
 
-  head-kind : u16At s 2 ≡ 1
+  head-kind : kindAt s 0 ≡ 1
   unfolding encodeHead u16At
   head-kind = rw e
 
@@ -65,7 +67,7 @@ module _ (s r : List ℕ) (d : Decoded) (o : HeadOk d) (e : s ≡ encodeHead d +
       (getD-append-add (n % 256 ∷ n / 256 ∷ 1 ∷ 0 ∷ d .mode ∷ d .site ∷ d .outputs ∷ d .horizon ∷ d .matching ∷ []) (d .literals ++ r) j 0
       ∙ List·getD-append (d .literals) r 0 j (omega (arith, o .literals)))
 
-  numbers : Numbers (getD s 4 0) (getD s 5 0) (getD s 6 0) (getD s 8 0) (u16At s 0)
+  numbers : Numbers (modeAt s 4) (siteAt s 4) (outputsAt s 4) (matchingAt s 4) (sizeAt s 0)
   numbers =
       rw (mode-back, site-back, outputs-back, matching-back, head-size)
       (record {
@@ -79,7 +81,7 @@ module _ (s r : List ℕ) (d : Decoded) (o : HeadOk d) (e : s ≡ encodeHead d +
         unmatched = o .matching;
       })
 
-  literals : Literals s 9 (getD s 6 0)
+  literals : Literals s (literalsFrom 4) (outputsAt s 4)
   literals =
       rw outputs-back
       (record {
@@ -88,10 +90,10 @@ module _ (s r : List ℕ) (d : Decoded) (o : HeadOk d) (e : s ≡ encodeHead d +
         once = λ i j u l q. o .literal-once i j u l (omega (arith, literal-back i (omega arith), literal-back j l));
       })
 
-  head-passes : headOk s 4 (u16At s 0) ≡ true
-  head-passes = head-test s (u16At s 0) numbers literals
+  head-passes : headOk s 4 (sizeAt s 0) ≡ true
+  head-passes = head-test s (sizeAt s 0) numbers literals
 
-  horizon-passes : HorizonOk d → horizonOk (inputsOf (getD s 4 0) (getD s 5 0) (getD s 6 0)) (getD s 7 0) ≡ true
+  horizon-passes : HorizonOk d → horizonOk (inputsOf (modeAt s 4) (siteAt s 4) (outputsAt s 4)) (horizonAt s 4) ≡ true
   unfolding horizonOk
   horizon-passes h =
       rw (
@@ -99,14 +101,14 @@ module _ (s r : List ℕ) (d : Decoded) (o : HeadOk d) (e : s ≡ encodeHead d +
         site-back,
         outputs-back,
         horizon-back,
-        le-leb (d .horizon) 24 (h .most),
-        le-leb (inputLines d * d .horizon) 24 (h .product-most),
+        le-leb (d .horizon) maxHorizon (h .most),
+        le-leb (inputLines d * d .horizon) maxHorizon (h .product-most),
       )
 
-  literals-back : tab (getD s 6 0) (λ j. getD (headSheet s 4 .literals) j 0) ≡ d .literals
+  literals-back : tab (outputsAt s 4) (λ j. getD (headSheet s 4 .literals) j 0) ≡ d .literals
   literals-back =
       sym
-      (tab-eq 0 (getD s 6 0) (λ j. getD (headSheet s 4 .literals) j 0) (d .literals) (o .literals ∙ sym outputs-back)
+      (tab-eq 0 (outputsAt s 4) (λ j. getD (headSheet s 4 .literals) j 0) (d .literals) (o .literals ∙ sym outputs-back)
       (λ j l. sym (literal-is s j l (numbers .outputs-most) ∙ literal-back j (omega (arith, outputs-back)))))
 
 -- ---- the whole sheet
@@ -243,7 +245,7 @@ unfolding lettersOf
 letters-most d o a =
     by-test (eqb (a .role) 2) (λ e. rw e (omega arith))
     (λ e.
-    let most : d .site + d .outputs ≤ 6 = omega (arith, site-inputs (d .mode) (d .site) (d .outputs), o .lines) in
+    let most : d .site + d .outputs ≤ maxLines = omega (arith, site-inputs (d .mode) (d .site) (d .outputs), o .lines) in
     rw e (pow-mono most))
 
 bytes-head : (d : Decoded) → HeadOk d → HorizonOk d → Bytes (encodeHead d)
@@ -265,7 +267,7 @@ bytes-monitor : (d : Decoded) (a : Automaton) → HeadOk d → MonitorOk d a →
 unfolding encodeMonitor
 bytes-monitor d a h o =
     let n : ℕ = 4 + length (a .accept) + length (a .accept) * letters d a in
-    let most : length (a .accept) * letters d a ≤ 32 * 64 = mul-le-mul (o .states-most) (letters-most d h a) in
+    let most : length (a .accept) * letters d a ≤ maxMonitorStates * 64 = mul-le-mul (o .states-most) (letters-most d h a) in
     bytes-append (n % 256 ∷ n / 256 ∷ 2 ∷ 0 ∷ a .role ∷ a .weight ∷ length (a .accept) ∷ a .start ∷ []) (a .accept ++ rowBytes a)
     (bytes-small (n % 256 ∷ n / 256 ∷ 2 ∷ 0 ∷ a .role ∷ a .weight ∷ length (a .accept) ∷ a .start ∷ []) (omega arith))
     (bytes-append (a .accept) (rowBytes a)

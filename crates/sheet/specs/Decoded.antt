@@ -7,6 +7,8 @@ use Prim.Native.Nat.{ℕ, _+_, _*_, _%_, _≤_, _<_}
 use lib.ListN.{length, getD}
 use Rattle.records.specs.Lists.{cat}
 use Rattle.records.specs.Cursor.{header}
+use Rattle.records.specs.Limits.{maxInputs, maxOutputs, maxLines, maxHorizon, maxMonitors, maxMonitorStates, literalEnd}
+use Rattle.fields.specs.Places.{headNumbers, monitorNumbers}
 unfoldable pub use Rattle.fields.specs.Lines.{inputsOf, lettersOf}
 
 -- a monitor: an automaton whose states are the indices of `accept`; `rows` has its next state for each state and letter
@@ -48,24 +50,24 @@ letters d a = lettersOf (a .role) (d .site) (d .outputs)
 -- the head, its horizon aside (ground 3)
 pub record HeadOk (d : Decoded) : Type 0 where
   pub mode : d .mode ≤ 1
-  pub site : d .site ≤ 4
+  pub site : d .site ≤ maxInputs
   pub outputs-least : 1 ≤ d .outputs
-  pub outputs-most : d .outputs ≤ 3
-  pub inputs : inputLines d ≤ 4
-  pub lines : inputLines d + d .outputs ≤ 6
+  pub outputs-most : d .outputs ≤ maxOutputs
+  pub inputs : inputLines d ≤ maxInputs
+  pub lines : inputLines d + d .outputs ≤ maxLines
   pub matching-byte : d .matching < 256
   pub matching : d .mode ≡ 0 → d .matching ≡ 0
   pub literals : length (d .literals) ≡ d .outputs
   -- the line's number, 8 more if off is preferred
-  pub literal-byte : (j : ℕ) → j < d .outputs → getD (d .literals) j 0 < 16
+  pub literal-byte : (j : ℕ) → j < d .outputs → getD (d .literals) j 0 < literalEnd
   pub literal-line : (j : ℕ) → j < d .outputs → getD (d .literals) j 0 % 8 < d .outputs
   -- each line once
   pub literal-once : (i j : ℕ) → i < j → j < d .outputs → getD (d .literals) i 0 % 8 ≡ getD (d .literals) j 0 % 8 → ⊥
 
 -- the horizon (ground 6)
 pub record HorizonOk (d : Decoded) : Type 0 where
-  pub most : d .horizon ≤ 24
-  pub product-most : inputLines d * d .horizon ≤ 24
+  pub most : d .horizon ≤ maxHorizon
+  pub product-most : inputLines d * d .horizon ≤ maxHorizon
 
 -- one monitor (ground 4)
 pub record MonitorOk (d : Decoded) (a : Automaton) : Type 0 where
@@ -77,7 +79,7 @@ pub record MonitorOk (d : Decoded) (a : Automaton) : Type 0 where
   pub soft : a .role ≡ 1 → 1 ≤ a .weight
   pub unweighted : (a .role ≡ 1 → ⊥) → a .weight ≡ 0
   pub states-least : 1 ≤ length (a .accept)
-  pub states-most : length (a .accept) ≤ 32
+  pub states-most : length (a .accept) ≤ maxMonitorStates
   pub start : a .start < length (a .accept)
   pub accept : (q : ℕ) → q < length (a .accept) → getD (a .accept) q 0 ≤ 1
   pub rows : length (a .rows) ≡ length (a .accept)
@@ -88,19 +90,19 @@ pub record MonitorOk (d : Decoded) (a : Automaton) : Type 0 where
 pub record SheetOk (d : Decoded) : Type 0 where
   pub head : HeadOk d
   pub horizon : HorizonOk d
-  pub count : length (d .monitors) ≤ 6
+  pub count : length (d .monitors) ≤ maxMonitors
   pub monitor : (j : ℕ) → j < length (d .monitors) → MonitorOk d (monitorOf d j)
 
 -- ---- bytes
 
 unfoldable pub encodeHead : Decoded → List ℕ
 encodeHead d =
-    header (5 + d .outputs) 1
+    header (headNumbers + d .outputs) 1
     ++ ((d .mode ∷ d .site ∷ d .outputs ∷ d .horizon ∷ d .matching ∷ []) ++ d .literals)
 
 unfoldable pub encodeMonitor : Decoded → Automaton → List ℕ
 encodeMonitor d a =
-    header (4 + length (a .accept) + length (a .accept) * letters d a) 2
+    header (monitorNumbers + length (a .accept) + length (a .accept) * letters d a) 2
     ++ ((a .role ∷ a .weight ∷ length (a .accept) ∷ a .start ∷ [])
     ++ (a .accept ++ cat (length (a .rows)) (λ q. getD (a .rows) q [])))
 

@@ -8,6 +8,7 @@ use lib.ListN.{length, getD}
 use lib.Arith.{digits-lt}
 use borrow.Author.Tests.{eq-eqb, ne-eqb}
 use Rattle.records.specs.Lists.{getD-tab}
+use Rattle.records.specs.Limits.{maxInputs, maxOutputs, maxLines, maxHorizon, maxMonitorStates, literalEnd}
 use Rattle.sheet.specs.Decoded.{monitorOf, inputsOf, inputLines, letters, MonitorOk}
 use Rattle.sheet.specs.Where.{width, automaton, placed, decoded, Fits}
 use Rattle.sheet.specs.Placed
@@ -26,7 +27,7 @@ module _ {s : List ℕ} {h : Sheet} (f : Fits s h) where
   unfolding decoded
   mode-most = f .ok .head .mode
 
-  pub site-most : h .site ≤ 4
+  pub site-most : h .site ≤ maxInputs
   unfolding decoded
   site-most = f .ok .head .site
 
@@ -34,14 +35,14 @@ module _ {s : List ℕ} {h : Sheet} (f : Fits s h) where
   unfolding decoded
   outputs-least = f .ok .head .outputs-least
 
-  pub outputs-most : h .outputs ≤ 3
+  pub outputs-most : h .outputs ≤ maxOutputs
   unfolding decoded
   outputs-most = f .ok .head .outputs-most
 
-  pub inputs-most : h .inputs ≤ 4
+  pub inputs-most : h .inputs ≤ maxInputs
   inputs-most = rw (← inputs-are) (f .ok .head .inputs)
 
-  pub lines-most : h .inputs + h .outputs ≤ 6
+  pub lines-most : h .inputs + h .outputs ≤ maxLines
   unfolding decoded
   lines-most = rw (f .inputs) (f .ok .head .lines)
 
@@ -55,11 +56,11 @@ module _ {s : List ℕ} {h : Sheet} (f : Fits s h) where
   unfolding inputsOf
   plain-inputs e = f .inputs ∙ rw (ne-eqb (h .mode) 1 (λ z. omega arith))
 
-  pub horizon-most : h .horizon ≤ 24
+  pub horizon-most : h .horizon ≤ maxHorizon
   unfolding decoded
   horizon-most = f .ok .horizon .most
 
-  pub horizon-product : h .inputs * h .horizon ≤ 24
+  pub horizon-product : h .inputs * h .horizon ≤ maxHorizon
   unfolding decoded
   horizon-product = rw (f .inputs) (f .ok .horizon .product-most)
 
@@ -73,7 +74,7 @@ module _ {s : List ℕ} {h : Sheet} (f : Fits s h) where
   unfolding decoded
   literal-is j l = getD-tab (h .outputs) (λ i. getD (h .literals) i 0) j 0 l
 
-  pub literal-byte : (j : ℕ) → j < h .outputs → getD (h .literals) j 0 < 16
+  pub literal-byte : (j : ℕ) → j < h .outputs → getD (h .literals) j 0 < literalEnd
   unfolding decoded
   literal-byte j l = rw (← literal-is j l) (f .ok .head .literal-byte j l)
 
@@ -142,7 +143,7 @@ module _ {s : List ℕ} {h : Sheet} (f : Fits s h) (j : ℕ) (l : j < h .count) 
   pub states-least : 1 ≤ placed h j .states
   states-least = rw (← Placed.length-accept s h (placed h j)) (ok .states-least)
 
-  pub states-most : placed h j .states ≤ 32
+  pub states-most : placed h j .states ≤ maxMonitorStates
   states-most = rw (← Placed.length-accept s h (placed h j)) (ok .states-most)
 
   pub start-below : placed h j .start < placed h j .states

@@ -2,9 +2,10 @@
 -- Assumes nothing.
 use mathlib.Core.Bool.{cond}
 use mathlib.Core.List.{List, [], _∷_}
-use Prim.Native.Nat.{ℕ, _+_}
-use lib.ListN.{getD, replicate}
-use Rattle.records.specs.Limits.{horizonOk}
+use Prim.Native.Nat.{ℕ}
+use lib.ListN.{replicate}
+use Rattle.records.specs.Limits.{maxMonitors, horizonOk}
+use Rattle.fields.specs.Places.{modeAt, siteAt, outputsAt, horizonAt, matchingAt}
 use Rattle.fields.specs.Lines.{inputsOf}
 use Rattle.fields.specs.Head.{headOk, literalAt}
 use Rattle.sheet.specs.Layout.{noMonitor, accepted, refused}
@@ -17,18 +18,18 @@ use Rattle.sheet.specs.declared.layout.Reading.{Reading}
 unfoldable pub headSheet : List ℕ → ℕ → Sheet
 headSheet s start =
     record {
-      mode = getD s start 0;
-      site = getD s (start + 1) 0;
-      inputs = inputsOf (getD s start 0) (getD s (start + 1) 0) (getD s (start + 2) 0);
-      outputs = getD s (start + 2) 0;
-      horizon = getD s (start + 3) 0;
-      matching = getD s (start + 4) 0;
+      mode = modeAt s start;
+      site = siteAt s start;
+      inputs = inputsOf (modeAt s start) (siteAt s start) (outputsAt s start);
+      outputs = outputsAt s start;
+      horizon = horizonAt s start;
+      matching = matchingAt s start;
       literals =
-          literalAt s start (getD s (start + 2) 0) 0
-          ∷ literalAt s start (getD s (start + 2) 0) 1
-          ∷ literalAt s start (getD s (start + 2) 0) 2
+          literalAt s start (outputsAt s start) 0
+          ∷ literalAt s start (outputsAt s start) 1
+          ∷ literalAt s start (outputsAt s start) 2
           ∷ [];
-      monitors = replicate 6 noMonitor;
+      monitors = replicate maxMonitors noMonitor;
       count = 0;
     }
 
@@ -36,6 +37,6 @@ headSheet s start =
 unfoldable pub readHead : List ℕ → ℕ → ℕ → Reading
 readHead s start size =
     cond (headOk s start size)
-    (cond (horizonOk (inputsOf (getD s start 0) (getD s (start + 1) 0) (getD s (start + 2) 0)) (getD s (start + 3) 0))
+    (cond (horizonOk (inputsOf (modeAt s start) (siteAt s start) (outputsAt s start)) (horizonAt s start))
     (accepted (headSheet s start)) (refused LongHorizon))
     (refused BadHead)

@@ -11,29 +11,29 @@ use lib.ListN.{getD}
 use borrow.Author.Tests.{ltb-true, leb-true, eqb-true, eqb-false, not-true, lt-ltb, le-leb, eq-eqb, ne-eqb}
 use Rattle.records.specs.Tests.{both-ways, by-test, and-left, and-right, or-not}
 use Rattle.records.specs.Bounded.{all-at, all-of}
-use Rattle.records.specs.Limits.{linesOk, Lines, lines-facts}
+use Rattle.records.specs.Limits.{maxInputs, maxOutputs, maxLines, maxMonitorStates, literalEnd, linesOk, Lines, lines-facts}
 use Rattle.sheet.specs.Decoded.{inputsOf, lettersOf}
+use Rattle.fields.specs.Places.{headNumbers, modeAt, siteAt, outputsAt, matchingAt, literalsFrom, monitorNumbers, roleAt, weightAt, statesAt, firstAt, acceptFrom, rowsFrom}
 use Rattle.fields.specs.Head.{siteOk, freshLine, literalOk, literalsOk, numbersOk, headOk}
 use Rattle.fields.specs.Monitor.{roleOk, statesOk, bytesMost}
 use Rattle.sheet.specs.Monitor.{monitorOk}
-use Rattle.sheet.specs.declared.layout.Sheet.{Sheet}
 
 -- ---- the head
 
 -- a head's numbers
 pub record Numbers (mode site outputs matching size : ℕ) : Type 0 where
   pub mode-most : mode ≤ 1
-  pub site-most : site ≤ 4
+  pub site-most : site ≤ maxInputs
   pub outputs-least : 1 ≤ outputs
-  pub outputs-most : outputs ≤ 3
-  pub inputs : inputsOf mode site outputs ≤ 4
-  pub lines : inputsOf mode site outputs + outputs ≤ 6
-  pub size-is : size ≡ 5 + outputs
+  pub outputs-most : outputs ≤ maxOutputs
+  pub inputs : inputsOf mode site outputs ≤ maxInputs
+  pub lines : inputsOf mode site outputs + outputs ≤ maxLines
+  pub size-is : size ≡ headNumbers + outputs
   pub unmatched : mode ≡ 0 → matching ≡ 0
 
 -- its literals
 pub record Literals (s : List ℕ) (at outputs : ℕ) : Type 0 where
-  pub byte : (j : ℕ) → j < outputs → getD s (at + j) 0 < 16
+  pub byte : (j : ℕ) → j < outputs → getD s (at + j) 0 < literalEnd
   pub line : (j : ℕ) → j < outputs → getD s (at + j) 0 % 8 < outputs
   pub once : (i j : ℕ) → i < j → j < outputs → getD s (at + i) 0 % 8 ≡ getD s (at + j) 0 % 8 → ⊥
 
@@ -44,12 +44,12 @@ numbers-facts m i o w size e =
     let l : Lines m (inputsOf m i o) o = lines-facts m (inputsOf m i o) o (search (and-left, and-right) depth 9) in
     record {
       mode-most = l .mode-is;
-      site-most = leb-true i 4 (search (and-left, and-right) depth 9);
+      site-most = leb-true i maxInputs (search (and-left, and-right) depth 9);
       outputs-least = l .outputs-least;
       outputs-most = l .outputs-most;
       inputs = l .inputs-most;
       lines = l .lines-most;
-      size-is = eqb-true size (5 + o) (search (and-left, and-right) depth 9);
+      size-is = eqb-true size (headNumbers + o) (search (and-left, and-right) depth 9);
       unmatched = λ q. eqb-true w 0 (or-not (eqb m 1) (eqb w 0) (search (and-left, and-right) depth 9) (ne-eqb m 1 (λ z. omega arith)));
     }
 
@@ -65,14 +65,14 @@ numbers-test : (mode site outputs matching size : ℕ) → Numbers mode site out
 unfolding numbersOk siteOk linesOk
 numbers-test m i o w size n =
     rw (
-      le-leb i 4 (n .site-most),
-      le-leb o 3 (n .outputs-most),
+      le-leb i maxInputs (n .site-most),
+      le-leb o maxOutputs (n .outputs-most),
       le-leb m 1 (n .mode-most),
-      le-leb (inputsOf m i o) 4 (n .inputs),
+      le-leb (inputsOf m i o) maxInputs (n .inputs),
       le-leb 1 o (n .outputs-least),
-      le-leb (inputsOf m i o + o) 6 (n .lines),
+      le-leb (inputsOf m i o + o) maxLines (n .lines),
       shield m i o (n .mode-most),
-      eq-eqb size (5 + o) (n .size-is),
+      eq-eqb size (headNumbers + o) (n .size-is),
     )
     (by-test (eqb m 1) (λ e. rw e)
     (λ e. rw (e, eq-eqb w 0 (n .unmatched (omega (arith, n .mode-most, eqb-false m 1 e))))))
@@ -81,11 +81,11 @@ literals-facts : (s : List ℕ) (at outputs : ℕ) → literalsOk s at outputs �
 unfolding literalsOk literalOk freshLine
 literals-facts s at o e =
     let each : (j : ℕ) → j < o → literalOk s at o j ≡ true = all-at o (λ j. literalOk s at o j) e in
-    let first : (j : ℕ) → Bool = λ j. ltb (getD s (at + j) 0) 16 in
+    let first : (j : ℕ) → Bool = λ j. ltb (getD s (at + j) 0) literalEnd in
     let second : (j : ℕ) → Bool = λ j. ltb (getD s (at + j) 0 % 8) o in
     let third : (j : ℕ) → Bool = λ j. freshLine s at j in
     record {
-      byte = λ j h. ltb-true (getD s (at + j) 0) 16 (and-left (first j) (second j && third j) (each j h));
+      byte = λ j h. ltb-true (getD s (at + j) 0) literalEnd (and-left (first j) (second j && third j) (each j h));
       line = λ j h. ltb-true (getD s (at + j) 0 % 8) o (and-left (second j) (third j) (and-right (first j) (second j && third j) (each j h)));
       once = λ i j l h. eqb-false (getD s (at + i) 0 % 8) (getD s (at + j) 0 % 8)
           (not-true (eqb (getD s (at + i) 0 % 8) (getD s (at + j) 0 % 8))
@@ -98,28 +98,28 @@ unfolding literalsOk literalOk freshLine
 literals-test s at o l =
     all-of o (λ j. literalOk s at o j)
     (λ j h.
-    rw (lt-ltb (getD s (at + j) 0) 16 (l .byte j h), lt-ltb (getD s (at + j) 0 % 8) o (l .line j h))
+    rw (lt-ltb (getD s (at + j) 0) literalEnd (l .byte j h), lt-ltb (getD s (at + j) 0 % 8) o (l .line j h))
     (all-of j (λ i. not (eqb (getD s (at + i) 0 % 8) (getD s (at + j) 0 % 8)))
     (λ i k. rw (ne-eqb (getD s (at + i) 0 % 8) (getD s (at + j) 0 % 8) (l .once i j k h)))))
 
 -- what a head that passes its tests has
 pub head-facts : (s : List ℕ) (size : ℕ) → headOk s 4 size ≡ true
-    → Numbers (getD s 4 0) (getD s 5 0) (getD s 6 0) (getD s 8 0) size × Literals s 9 (getD s 6 0)
+    → Numbers (modeAt s 4) (siteAt s 4) (outputsAt s 4) (matchingAt s 4) size × Literals s (literalsFrom 4) (outputsAt s 4)
 unfolding headOk
 head-facts s size e = (
-  numbers-facts (getD s 4 0) (getD s 5 0) (getD s 6 0) (getD s 8 0) size (search (and-left, and-right) depth 9),
-  literals-facts s 9 (getD s 6 0) (search (and-left, and-right) depth 9),
+  numbers-facts (modeAt s 4) (siteAt s 4) (outputsAt s 4) (matchingAt s 4) size (search (and-left, and-right) depth 9),
+  literals-facts s (literalsFrom 4) (outputsAt s 4) (search (and-left, and-right) depth 9),
 )
 
 -- and that such a head passes them
-pub head-test : (s : List ℕ) (size : ℕ) → Numbers (getD s 4 0) (getD s 5 0) (getD s 6 0) (getD s 8 0) size
-    → Literals s 9 (getD s 6 0) → headOk s 4 size ≡ true
+pub head-test : (s : List ℕ) (size : ℕ) → Numbers (modeAt s 4) (siteAt s 4) (outputsAt s 4) (matchingAt s 4) size
+    → Literals s (literalsFrom 4) (outputsAt s 4) → headOk s 4 size ≡ true
 unfolding headOk
 head-test s size n l =
     rw (
-      le-leb 5 size (omega (arith, n .size-is)),
-      numbers-test (getD s 4 0) (getD s 5 0) (getD s 6 0) (getD s 8 0) size n,
-      literals-test s 9 (getD s 6 0) l,
+      le-leb headNumbers size (omega (arith, n .size-is)),
+      numbers-test (modeAt s 4) (siteAt s 4) (outputsAt s 4) (matchingAt s 4) size n,
+      literals-test s (literalsFrom 4) (outputsAt s 4) l,
     )
 
 -- ---- a monitor
@@ -133,12 +133,12 @@ pub record Role (mode role weight : ℕ) : Type 0 where
 
 -- the body of a monitor whose rows have w letters
 pub record Body (s : List ℕ) (at w size : ℕ) : Type 0 where
-  pub states-least : 1 ≤ getD s (at + 2) 0
-  pub states-most : getD s (at + 2) 0 ≤ 32
-  pub start : getD s (at + 3) 0 < getD s (at + 2) 0
-  pub size-is : size ≡ 4 + getD s (at + 2) 0 + getD s (at + 2) 0 * w
-  pub accept : (q : ℕ) → q < getD s (at + 2) 0 → getD s (at + 4 + q) 0 ≤ 1
-  pub next : (k : ℕ) → k < getD s (at + 2) 0 * w → getD s (at + 4 + getD s (at + 2) 0 + k) 0 < getD s (at + 2) 0
+  pub states-least : 1 ≤ statesAt s at
+  pub states-most : statesAt s at ≤ maxMonitorStates
+  pub start : firstAt s at < statesAt s at
+  pub size-is : size ≡ monitorNumbers + statesAt s at + statesAt s at * w
+  pub accept : (q : ℕ) → q < statesAt s at → getD s (acceptFrom at + q) 0 ≤ 1
+  pub next : (k : ℕ) → k < statesAt s at * w → getD s (rowsFrom s at + k) 0 < statesAt s at
 
 role-facts : (mode role weight : ℕ) → roleOk mode role weight ≡ true → Role mode role weight
 unfolding roleOk
@@ -177,44 +177,44 @@ role-test m r w h =
     rw (a, b, eq-eqb r 2 q, eq-eqb m 1 (h .limit q), eq-eqb w 0 (h .unweighted (eqb-false r 1 b)))))
 
 -- what a monitor that passes its tests has
-pub monitor-facts : (s : List ℕ) (h : Sheet) (at size : ℕ) → monitorOk s h at size ≡ true
-    → Role (h .mode) (getD s at 0) (getD s (at + 1) 0) × Body s at (lettersOf (getD s at 0) (h .site) (h .outputs)) size
+pub monitor-facts : (s : List ℕ) (mode site outputs at size : ℕ) → monitorOk s mode site outputs at size ≡ true
+    → Role mode (roleAt s at) (weightAt s at) × Body s at (lettersOf (roleAt s at) site outputs) size
 unfolding monitorOk statesOk bytesMost
-monitor-facts s h at size e =
-    let n : ℕ = getD s (at + 2) 0 in
-    let w : ℕ = lettersOf (getD s at 0) (h .site) (h .outputs) in
-    let least : 1 ≤ getD s (at + 2) 0 = leb-true 1 n (search (and-left, and-right) depth 9) in (
-      role-facts (h .mode) (getD s at 0) (getD s (at + 1) 0) (search (and-left, and-right) depth 9),
+monitor-facts s mode site outputs at size e =
+    let n : ℕ = statesAt s at in
+    let w : ℕ = lettersOf (roleAt s at) site outputs in
+    let least : 1 ≤ statesAt s at = leb-true 1 n (search (and-left, and-right) depth 9) in (
+      role-facts mode (roleAt s at) (weightAt s at) (search (and-left, and-right) depth 9),
       record {
         states-least = least;
-        states-most = leb-true n 32 (search (and-left, and-right) depth 9);
-        start = ltb-true (getD s (at + 3) 0) n (search (and-left, and-right) depth 9);
-        size-is = eqb-true size (4 + n + n * w) (search (and-left, and-right) depth 9);
-        accept = λ q l. leb-true (getD s (at + 4 + q) 0) 1
-            (all-at n (λ k. leb (getD s (at + 4 + k) 0) 1) (search (and-left, and-right) depth 9) q l);
+        states-most = leb-true n maxMonitorStates (search (and-left, and-right) depth 9);
+        start = ltb-true (firstAt s at) n (search (and-left, and-right) depth 9);
+        size-is = eqb-true size (monitorNumbers + n + n * w) (search (and-left, and-right) depth 9);
+        accept = λ q l. leb-true (getD s (acceptFrom at + q) 0) 1
+            (all-at n (λ k. leb (getD s (acceptFrom at + k) 0) 1) (search (and-left, and-right) depth 9) q l);
         next = λ k l. omega (
           arith,
-          leb-true (getD s (at + 4 + n + k) 0) (n - 1)
-              (all-at (n * w) (λ k. leb (getD s (at + 4 + n + k) 0) (n - 1)) (search (and-left, and-right) depth 9) k l),
+          leb-true (getD s (rowsFrom s at + k) 0) (n - 1)
+              (all-at (n * w) (λ k. leb (getD s (rowsFrom s at + k) 0) (n - 1)) (search (and-left, and-right) depth 9) k l),
         );
       },
     )
 
 -- and that such a monitor passes them
-pub monitor-test : (s : List ℕ) (h : Sheet) (at size : ℕ) → Role (h .mode) (getD s at 0) (getD s (at + 1) 0)
-    → Body s at (lettersOf (getD s at 0) (h .site) (h .outputs)) size → monitorOk s h at size ≡ true
+pub monitor-test : (s : List ℕ) (mode site outputs at size : ℕ) → Role mode (roleAt s at) (weightAt s at)
+    → Body s at (lettersOf (roleAt s at) site outputs) size → monitorOk s mode site outputs at size ≡ true
 unfolding monitorOk statesOk bytesMost
-monitor-test s h at size r b =
-    let n : ℕ = getD s (at + 2) 0 in
-    let w : ℕ = lettersOf (getD s at 0) (h .site) (h .outputs) in
+monitor-test s mode site outputs at size r b =
+    let n : ℕ = statesAt s at in
+    let w : ℕ = lettersOf (roleAt s at) site outputs in
     rw (
-      le-leb 4 size (omega (arith, b .size-is)),
-      role-test (h .mode) (getD s at 0) (getD s (at + 1) 0) r,
+      le-leb monitorNumbers size (omega (arith, b .size-is)),
+      role-test mode (roleAt s at) (weightAt s at) r,
       le-leb 1 n (b .states-least),
-      le-leb n 32 (b .states-most),
-      lt-ltb (getD s (at + 3) 0) n (b .start),
-      eq-eqb size (4 + n + n * w) (b .size-is),
-      all-of n (λ k. leb (getD s (at + 4 + k) 0) 1) (λ q l. le-leb (getD s (at + 4 + q) 0) 1 (b .accept q l)),
-      all-of (n * w) (λ k. leb (getD s (at + 4 + n + k) 0) (n - 1))
-          (λ k l. le-leb (getD s (at + 4 + n + k) 0) (n - 1) (omega (arith, b .next k l))),
+      le-leb n maxMonitorStates (b .states-most),
+      lt-ltb (firstAt s at) n (b .start),
+      eq-eqb size (monitorNumbers + n + n * w) (b .size-is),
+      all-of n (λ k. leb (getD s (acceptFrom at + k) 0) 1) (λ q l. le-leb (getD s (acceptFrom at + q) 0) 1 (b .accept q l)),
+      all-of (n * w) (λ k. leb (getD s (rowsFrom s at + k) 0) (n - 1))
+          (λ k l. le-leb (getD s (rowsFrom s at + k) 0) (n - 1) (omega (arith, b .next k l))),
     )

@@ -4,6 +4,7 @@ use mathlib.Core.Path.{_≡_, refl}
 use mathlib.Core.List.{List, [], _∷_}
 use Prim.Native.Nat.{ℕ, suc, _+_}
 use lib.ListN.{set, replicate}
+use Rattle.records.specs.Limits.{maxOutputs, maxMonitors}
 use Rattle.sheet.specs.declared.layout.Monitor.{Monitor}
 use Rattle.sheet.specs.declared.layout.Sheet.{Sheet}
 use Rattle.sheet.specs.declared.layout.Refusal.{Refusal}
@@ -11,10 +12,6 @@ use Rattle.sheet.specs.declared.layout.Refusal.the-variants.{Truncated, 
 use Rattle.sheet.specs.declared.layout.Verdict.{Verdict}
 use Rattle.sheet.specs.declared.layout.Verdict.the-variants.{Accepted, Refused}
 use Rattle.sheet.specs.declared.layout.Reading.{Reading}
-
--- a sheet has at most so many monitors
-abbrev pub maxMonitors : ℕ
-maxMonitors = 6
 
 unfoldable pub noMonitor : Monitor
 noMonitor = record { role = 0; weight = 0; states = 0; start = 0; accept = 0; rows = 0 }
@@ -28,8 +25,8 @@ blank =
       outputs = 0;
       horizon = 0;
       matching = 0;
-      literals = replicate 3 0;
-      monitors = replicate 6 noMonitor;
+      literals = replicate maxOutputs 0;
+      monitors = replicate maxMonitors noMonitor;
       count = 0;
     }
 

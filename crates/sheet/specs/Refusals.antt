@@ -1,56 +1,69 @@
--- Grounds 1 to 6 by document 01's numbers, 0 for none: records in turn (1, 2, 5, then 3 and 6 or 4).
+-- Grounds 1 to 6 by document 01's numbers, 0 for none. Records in turn: in each 1, then 2, then 5, then 3 and 6 (a head) or 4 (a
+-- monitor). Nothing here speaks of the layout that a reader keeps.
 -- Assumes nothing.
-use mathlib.Core.Bool.{cond}
+use mathlib.Core.Bool.{Bool, cond}
 use mathlib.Core.List.{List}
-use Prim.Native.Nat.{ℕ, zero, suc, _+_}
-use lib.Dec.{eqb, leb}
-use lib.ListN.{length, getD}
-use Rattle.records.specs.Cursor.{readAt}
-use Rattle.records.specs.Limits.{horizonOk}
-use Rattle.records.specs.declared.cursor.Found.{Found}
-use Rattle.records.specs.declared.cursor.Found.the-variants as found
-use Rattle.sheet.specs.Decoded.{inputsOf}
-use Rattle.sheet.specs.Layout.{withMonitor}
+use Prim.Native.Nat.{ℕ, zero, suc}
+use lib.Dec.{ltb, leb, eqb}
+use lib.ListN.{length}
+use Rattle.records.specs.Cursor.{readAt, foundNumber, sizeAt, kindAt, bodyAt, endAt}
+use Rattle.records.specs.Limits.{maxMonitors, horizonOk}
+use Rattle.fields.specs.Places.{modeAt, siteAt, outputsAt, horizonAt}
+use Rattle.fields.specs.Lines.{inputsOf}
 use Rattle.fields.specs.Head.{headOk}
-use Rattle.sheet.specs.Head.{headSheet}
-use Rattle.sheet.specs.Monitor.{monitorOk, monitorAt}
-use Rattle.sheet.specs.declared.layout.Sheet.{Sheet}
+use Rattle.sheet.specs.Monitor.{monitorOk}
 
--- a head's body: 3, then 6
+-- the ground's number where its test is not passed, else what is due after it
+abbrev pub unless : Bool → ℕ → ℕ → ℕ
+unless passed ground later = cond passed later ground
+
+-- the number, or what is due after it
+abbrev pub orElse : ℕ → ℕ → ℕ
+orElse zero later = later
+orElse (suc n) later = suc n
+
+-- ---- the body of a record
+
+-- a head's
 unfoldable pub headNumber : List ℕ → ℕ → ℕ → ℕ
 headNumber s start size =
-    cond (headOk s start size)
-    (cond (horizonOk (inputsOf (getD s start 0) (getD s (start + 1) 0) (getD s (start + 2) 0)) (getD s (start + 3) 0)) 0 6)
-    3
+    -- 3: head length or field wrong, H aside
+    unless (headOk s start size) 3
+    -- 6: H above 24, or inputs × H above 24
+    (unless (horizonOk (inputsOf (modeAt s start) (siteAt s start) (outputsAt s start)) (horizonAt s start)) 6 0)
 
--- a record after the head: 2, then 5, then 4
-unfoldable pub recordNumber : List ℕ → Sheet → ℕ → ℕ → ℕ → ℕ
-recordNumber s h kind start size =
-    cond (eqb kind 2) (cond (leb 6 (h .count)) 5 (cond (monitorOk s h start size) 0 4)) 2
+-- a monitor's, under the head whose body begins at `head`
+unfoldable pub monitorNumber : List ℕ → ℕ → ℕ → ℕ → ℕ
+monitorNumber s head start size =
+    -- 4: monitor length or field wrong
+    unless (monitorOk s (modeAt s head) (siteAt s head) (outputsAt s head) start size) 4 0
 
--- the number, or what the records after this one give
-abbrev pub firstNumber : ℕ → ℕ → ℕ
-firstNumber zero next = next
-firstNumber (suc n) next = suc n
+-- ---- records in turn
 
--- the records after the head: 1 where the bytes run out within one
-unfoldable pub recordsNumber : ℕ → List ℕ → Sheet → ℕ → ℕ
-recordsNumber zero s h at = 1
-recordsNumber (suc n) s h at =
-    elim (readAt s at) [
-      | found.End ↦ 0
-      | found.Truncated ↦ 1
-      | found.Record kind start size next ↦ firstNumber (recordNumber s h kind start size) (recordsNumber n s (withMonitor h (monitorAt s start)) (next .at))
-    ]
+-- a record after the head, if there is one, and what is due if it is a monitor
+abbrev pub laterNumber : List ℕ → ℕ → ℕ → ℕ
+laterNumber s at monitor =
+    cond (leb (length s) at) 0
+    -- 1: 1 to 3 bytes left for a record, or its body runs past the end
+    (orElse (foundNumber (readAt s at))
+    -- 2: a second head, unknown kind
+    (unless (eqb (kindAt s at) 2) 2 monitor))
+
+-- the records from `at` on, where so many monitors may still come
+unfoldable pub recordsNumber : ℕ → List ℕ → ℕ → ℕ → ℕ
+-- 5: a seventh monitor
+recordsNumber zero s head at = laterNumber s at 5
+-- 4, then the records after this one
+recordsNumber (suc room) s head at =
+    laterNumber s at (orElse (monitorNumber s head (bodyAt at) (sizeAt s at)) (recordsNumber room s head (endAt s at)))
 
 -- the whole sheet
 unfoldable pub sheetNumber : List ℕ → ℕ
 sheetNumber s =
-    elim (readAt s 0) [
-      | found.End ↦ 2
-      | found.Truncated ↦ 1
-      | found.Record kind start size next ↦
-          cond (eqb kind 1)
-          (firstNumber (headNumber s start size) (recordsNumber (suc (length s)) s (headSheet s start) (next .at)))
-          2
-    ]
+    -- 1: as above
+    orElse (foundNumber (readAt s 0))
+    -- 2: no record, first not a head
+    (unless (ltb 0 (length s)) 2
+    (unless (eqb (kindAt s 0) 1) 2
+    -- 3, then 6, then the records after the head
+    (orElse (headNumber s (bodyAt 0) (sizeAt s 0)) (recordsNumber maxMonitors s (bodyAt 0) (endAt s 0)))))

@@ -14,12 +14,12 @@ use lib.Seq.{getD-set-same, getD-set-other}
 use borrow.Author.Tests.{eqb-true, leb-false, eq-eqb, lt-leb}
 use Rattle.records.specs.Tests.{by-test}
 use Rattle.records.specs.Bounded.{cases-suc}
-use Rattle.records.specs.Numbers.{u16At}
-use Rattle.records.specs.Cursor.{read-cases, read-end, read-record}
-use Rattle.records.specs.Limits.{horizonOk}
+use Rattle.records.specs.Cursor.{sizeAt, kindAt, bodyAt, endAt, read-cases, read-end, read-record}
+use Rattle.records.specs.Limits.{maxMonitors, horizonOk}
 use Rattle.sheet.specs.Decoded.{inputsOf}
 use Rattle.sheet.specs.Layout.{noMonitor, accepted, refused, verdictNumber, withMonitor}
 use Rattle.sheet.specs.Where.{placed}
+use Rattle.fields.specs.Places.{modeAt, siteAt, outputsAt, horizonAt, matchingAt}
 use Rattle.fields.specs.Head.{headOk}
 use Rattle.sheet.specs.Head.{headSheet, readHead}
 use Rattle.sheet.specs.Monitor.{monitorOk, monitorAt, takeMonitor}
@@ -32,24 +32,24 @@ use Rattle.sheet.specs.declared.layout.Reading.{Reading}
 
 -- where the record of monitor j begins, if there is one; each ends where the next begins
 unfoldable pub offset : List ℕ → ℕ → ℕ
-offset s zero = 4 + u16At s 0
-offset s (suc j) = offset s j + 4 + u16At s (offset s j)
+offset s zero = endAt s 0
+offset s (suc j) = endAt s (offset s j)
 
 -- the places of the first k monitors
 unfoldable pub places : List ℕ → ℕ → List Monitor
-places s zero = replicate 6 noMonitor
-places s (suc k) = set (places s k) k (monitorAt s (offset s k + 4))
+places s zero = replicate maxMonitors noMonitor
+places s (suc k) = set (places s k) k (monitorAt s (bodyAt (offset s k)))
 
 -- the layout of the head and the first k monitors
 unfoldable pub upto : List ℕ → ℕ → Sheet
 upto s k =
     record {
-      mode = getD s 4 0;
-      site = getD s 5 0;
-      inputs = inputsOf (getD s 4 0) (getD s 5 0) (getD s 6 0);
-      outputs = getD s 6 0;
-      horizon = getD s 7 0;
-      matching = getD s 8 0;
+      mode = modeAt s 4;
+      site = siteAt s 4;
+      inputs = inputsOf (modeAt s 4) (siteAt s 4) (outputsAt s 4);
+      outputs = outputsAt s 4;
+      horizon = horizonAt s 4;
+      matching = matchingAt s 4;
       literals = headSheet s 4 .literals;
       monitors = places s k;
       count = k;
@@ -57,15 +57,15 @@ upto s k =
 
 -- the record of monitor j passes its tests
 pub record Turn (s : List ℕ) (j : ℕ) : Type 0 where
-  pub kind : u16At s (offset s j + 2) ≡ 2
-  pub ok : monitorOk s (upto s j) (offset s j + 4) (u16At s (offset s j)) ≡ true
+  pub kind : kindAt s (offset s j) ≡ 2
+  pub ok : monitorOk s (upto s j .mode) (upto s j .site) (upto s j .outputs) (bodyAt (offset s j)) (sizeAt s (offset s j)) ≡ true
 
 -- a head and k monitors pass their tests and fill the bytes
 pub record Chain (s : List ℕ) (k : ℕ) : Type 0 where
-  pub kind : u16At s 2 ≡ 1
-  pub head : headOk s 4 (u16At s 0) ≡ true
-  pub horizon : horizonOk (inputsOf (getD s 4 0) (getD s 5 0) (getD s 6 0)) (getD s 7 0) ≡ true
-  pub count : k ≤ 6
+  pub kind : kindAt s 0 ≡ 1
+  pub head : headOk s 4 (sizeAt s 0) ≡ true
+  pub horizon : horizonOk (inputsOf (modeAt s 4) (siteAt s 4) (outputsAt s 4)) (horizonAt s 4) ≡ true
+  pub count : k ≤ maxMonitors
   pub turn : (j : ℕ) → j < k → Turn s j
   pub ends : offset s k ≡ length s
 
@@ -75,31 +75,31 @@ upto-none : (s : List ℕ) → headSheet s 4 ≡ upto s 0
 unfolding headSheet upto places
 upto-none s = refl
 
-upto-more : (s : List ℕ) (k : ℕ) → withMonitor (upto s k) (monitorAt s (offset s k + 4)) ≡ upto s (suc k)
+upto-more : (s : List ℕ) (k : ℕ) → withMonitor (upto s k) (monitorAt s (bodyAt (offset s k))) ≡ upto s (suc k)
 unfolding withMonitor upto places
-upto-more s k = rw add-one
+upto-more s k = rw (add-one k)
 
-length-places : (s : List ℕ) (k : ℕ) → length (places s k) ≡ 6
+length-places : (s : List ℕ) (k : ℕ) → length (places s k) ≡ maxMonitors
 unfolding places
 length-places s zero = refl
-length-places s (suc k) = length-set (places s k) k (monitorAt s (offset s k + 4)) ∙ length-places s k
+length-places s (suc k) = length-set (places s k) k (monitorAt s (bodyAt (offset s k))) ∙ length-places s k
 
 -- monitor j lies where its record begins
-pub placed-at : (s : List ℕ) (k j : ℕ) → k ≤ 6 → j < k → placed (upto s k) j ≡ monitorAt s (offset s j + 4)
+pub placed-at : (s : List ℕ) (k j : ℕ) → k ≤ maxMonitors → j < k → placed (upto s k) j ≡ monitorAt s (bodyAt (offset s j))
 unfolding upto places
 placed-at s zero j h l = absurd (omega arith)
 placed-at s (suc k) j h l =
     cases-suc j k l
-    (λ u. getD-set-other (places s k) k j (monitorAt s (offset s k + 4)) noMonitor (omega arith) ∙ placed-at s k j (omega arith) u)
-    (λ e. rw e (getD-set-same (places s k) k (monitorAt s (offset s k + 4)) noMonitor (rw (length-places s k) (omega arith))))
+    (λ u. getD-set-other (places s k) k j (monitorAt s (bodyAt (offset s k))) noMonitor (omega arith) ∙ placed-at s k j (omega arith) u)
+    (λ e. rw e (getD-set-same (places s k) k (monitorAt s (bodyAt (offset s k))) noMonitor (rw (length-places s k) (omega arith))))
 
-room : (s : List ℕ) (k : ℕ) → k < 6 → upto s k .count < 6
+room : (s : List ℕ) (k : ℕ) → k < maxMonitors → upto s k .count < maxMonitors
 unfolding upto
 room s k h = h
 
-below : (s : List ℕ) (k : ℕ) → leb 6 (upto s k .count) ≡ false → k < 6
+below : (s : List ℕ) (k : ℕ) → leb maxMonitors (upto s k .count) ≡ false → k < maxMonitors
 unfolding upto
-below s k e = leb-false 6 k e
+below s k e = leb-false maxMonitors k e
 
 -- every record takes some bytes
 pub offset-up : (s : List ℕ) (j m : ℕ) → offset s j + m ≤ offset s (j + m)
@@ -112,9 +112,9 @@ offset-up s j (suc m) = rw (add-suc j m) (omega (arith, offset-up s j m))
 -- a record that is accepted passes its tests
 take-passes : (s : List ℕ) (h : Sheet) (kind start size : ℕ) (next : Sheet → Reading)
     → chained (takeRecord s h kind start size) next ≡ 0
-    → (eqb kind 2 ≡ true) × (leb 6 (h .count) ≡ false) × (monitorOk s h start size ≡ true)
+    → (eqb kind 2 ≡ true) × (leb maxMonitors (h .count) ≡ false) × (monitorOk s (h .mode) (h .site) (h .outputs) start size ≡ true)
 unfolding takeRecord takeMonitor
-take-passes s h kind start size next = go (eqb kind 2) (leb 6 (h .count)) (monitorOk s h start size)
+take-passes s h kind start size next = go (eqb kind 2) (leb maxMonitors (h .count)) (monitorOk s (h .mode) (h .site) (h .outputs) start size)
   where
     go : (a b c : Bool)
         → chained
@@ -127,17 +127,18 @@ take-passes s h kind start size next = go (eqb kind 2) (leb 6 (h .count)) (monit
     go false b c e = absurd (omega arith)
 
 -- and one that passes them is accepted
-take-accepts : (s : List ℕ) (h : Sheet) (kind start size : ℕ) → kind ≡ 2 → h .count < 6 → monitorOk s h start size ≡ true
+take-accepts : (s : List ℕ) (h : Sheet) (kind start size : ℕ) → kind ≡ 2 → h .count < maxMonitors
+    → monitorOk s (h .mode) (h .site) (h .outputs) start size ≡ true
     → takeRecord s h kind start size ≡ accepted (withMonitor h (monitorAt s start))
 unfolding takeRecord takeMonitor
-take-accepts s h kind start size e l m = rw (eq-eqb kind 2 e, lt-leb 6 (h .count) l, m)
+take-accepts s h kind start size e l m = rw (eq-eqb kind 2 e, lt-leb maxMonitors (h .count) l, m)
 
 head-passes : (s : List ℕ) (start size : ℕ) (next : Sheet → Reading) → chained (readHead s start size) next ≡ 0
     → (headOk s start size ≡ true)
-    × (horizonOk (inputsOf (getD s start 0) (getD s (start + 1) 0) (getD s (start + 2) 0)) (getD s (start + 3) 0) ≡ true)
+    × (horizonOk (inputsOf (modeAt s start) (siteAt s start) (outputsAt s start)) (horizonAt s start) ≡ true)
 unfolding readHead
 head-passes s start size next =
-    go (headOk s start size) (horizonOk (inputsOf (getD s start 0) (getD s (start + 1) 0) (getD s (start + 2) 0)) (getD s (start + 3) 0))
+    go (headOk s start size) (horizonOk (inputsOf (modeAt s start) (siteAt s start) (outputsAt s start)) (horizonAt s start))
   where
     go : (a b : Bool)
         → chained (cond a (cond b (accepted (headSheet s start)) (refused LongHorizon)) (refused BadHead)) next ≡ 0
@@ -151,7 +152,7 @@ head-passes s start size next =
 -- monitors j to k pass their tests and fill the bytes, and the reader says so
 record Walk (n : ℕ) (s : List ℕ) (j k : ℕ) : Type 0 where
   from : j ≤ k
-  count : k ≤ 6
+  count : k ≤ maxMonitors
   turn : (i : ℕ) → j ≤ i → i < k → Turn s i
   ends : offset s k ≡ length s
   whole : readRecords n s (upto s j) (offset s j) ≡ accepted (upto s k)
@@ -159,30 +160,30 @@ record Walk (n : ℕ) (s : List ℕ) (j k : ℕ) : Type 0 where
 turn-here : (s : List ℕ) (j k : ℕ) → Turn s j → ((i : ℕ) → suc j ≤ i → i < k → Turn s i) → (i : ℕ) → j ≤ i → i < k → Turn s i
 turn-here s j k t f i h l = elim (native.Mathlib.Decide.ℕ-discrete i j) [ yes e ↦ rw e t | no e ↦ f i (omega arith) l ]
 
-step-whole : (n : ℕ) (s : List ℕ) (j : ℕ) → j < 6 → Turn s j → offset s (suc j) ≤ length s
+step-whole : (n : ℕ) (s : List ℕ) (j : ℕ) → j < maxMonitors → Turn s j → offset s (suc j) ≤ length s
     → readRecords (suc n) s (upto s j) (offset s j) ≡ readRecords n s (upto s (suc j)) (offset s (suc j))
 unfolding readRecords onFound offset
 step-whole n s j l t h =
     rw (
       read-record s (offset s j) h,
-      take-accepts s (upto s j) (u16At s (offset s j + 2)) (offset s j + 4) (u16At s (offset s j)) (t .kind) (room s j l) (t .ok),
+      take-accepts s (upto s j) (kindAt s (offset s j)) (bodyAt (offset s j)) (sizeAt s (offset s j)) (t .kind) (room s j l) (t .ok),
       upto-more s j,
     )
 
-walk-finds : (n : ℕ) (s : List ℕ) (j : ℕ) → j ≤ 6 → offset s j ≤ length s
+walk-finds : (n : ℕ) (s : List ℕ) (j : ℕ) → j ≤ maxMonitors → offset s j ≤ length s
     → verdictNumber (readRecords n s (upto s j) (offset s j) .verdict) ≡ 0 → (k : ℕ) × Walk n s j k
 unfolding readRecords onFound offset
 walk-finds zero s j h l e = absurd (omega arith)
 walk-finds (suc n) s j h l e =
     read-cases s (offset s j)
     (λ f m. (j, record { from = omega arith; count = h; turn = λ i u v. absurd (omega arith); ends = omega arith; whole = rw f }))
-    (λ f. absurd (let z : _≡_ {A = ℕ} 1 0 = rw f at e in omega arith))
+    (λ f m. absurd (let z : _≡_ {A = ℕ} 1 0 = rw f at e in omega arith))
     (λ f m.
-    let passes : (eqb (u16At s (offset s j + 2)) 2 ≡ true) × (leb 6 (upto s j .count) ≡ false)
-    × (monitorOk s (upto s j) (offset s j + 4) (u16At s (offset s j)) ≡ true) =
-    take-passes s (upto s j) (u16At s (offset s j + 2)) (offset s j + 4) (u16At s (offset s j))
+    let passes : (eqb (kindAt s (offset s j)) 2 ≡ true) × (leb maxMonitors (upto s j .count) ≡ false)
+    × (monitorOk s (upto s j .mode) (upto s j .site) (upto s j .outputs) (bodyAt (offset s j)) (sizeAt s (offset s j)) ≡ true) =
+    take-passes s (upto s j) (kindAt s (offset s j)) (bodyAt (offset s j)) (sizeAt s (offset s j))
     (λ h′. readRecords n s h′ (offset s (suc j))) (rw f at e) in
-    let t : Turn s j = record { kind = eqb-true (u16At s (offset s j + 2)) 2 (passes .0); ok = passes .2 } in
+    let t : Turn s j = record { kind = eqb-true (kindAt s (offset s j)) 2 (passes .0); ok = passes .2 } in
     let more : readRecords (suc n) s (upto s j) (offset s j) ≡ readRecords n s (upto s (suc j)) (offset s (suc j)) =
     step-whole n s j (below s j (passes .1)) t m in
     let r : (k : ℕ) × Walk n s (suc j) k = walk-finds n s (suc j) (below s j (passes .1)) m (rw more at e) in (
@@ -196,7 +197,7 @@ walk-finds (suc n) s j h l e =
       },
     ))
 
-walk-reaches : (m n : ℕ) (s : List ℕ) (j k : ℕ) → j + m ≡ k → m < n → k ≤ 6 → ((i : ℕ) → i < k → Turn s i) → offset s k ≡ length s
+walk-reaches : (m n : ℕ) (s : List ℕ) (j k : ℕ) → j + m ≡ k → m < n → k ≤ maxMonitors → ((i : ℕ) → i < k → Turn s i) → offset s k ≡ length s
     → readRecords n s (upto s j) (offset s j) ≡ accepted (upto s k)
 unfolding readRecords onFound
 walk-reaches m zero s j k q l h t e = absurd (omega arith)
@@ -210,11 +211,11 @@ walk-reaches (suc m) (suc n) s j k q l h t e =
 
 -- ---- the whole sheet
 
-head-whole : (s : List ℕ) → u16At s 2 ≡ 1 → headOk s 4 (u16At s 0) ≡ true
-    → horizonOk (inputsOf (getD s 4 0) (getD s 5 0) (getD s 6 0)) (getD s 7 0) ≡ true → 4 + u16At s 0 ≤ length s
+head-whole : (s : List ℕ) → kindAt s 0 ≡ 1 → headOk s 4 (sizeAt s 0) ≡ true
+    → horizonOk (inputsOf (modeAt s 4) (siteAt s 4) (outputsAt s 4)) (horizonAt s 4) ≡ true → endAt s 0 ≤ length s
     → reading s ≡ readRecords (suc (length s)) s (upto s 0) (offset s 0)
 unfolding reading firstFound readHead offset
-head-whole s k a b h = rw (read-record s 0 h, eq-eqb (u16At s 2) 1 k, a, b, upto-none s)
+head-whole s k a b h = rw (read-record s 0 h, eq-eqb (kindAt s 0) 1 k, a, b, upto-none s)
 
 -- an accepted sheet is a head and monitors that pass their tests, and its layout is theirs
 pub chain-of : (s : List ℕ) → verdictNumber (reading s .verdict) ≡ 0 → (k : ℕ) × Chain s k × (reading s ≡ accepted (upto s k))
@@ -222,13 +223,13 @@ unfolding reading firstFound offset
 chain-of s e =
     read-cases s 0
     (λ f m. absurd (let z : _≡_ {A = ℕ} 2 0 = rw f at e in omega arith))
-    (λ f. absurd (let z : _≡_ {A = ℕ} 1 0 = rw f at e in omega arith))
+    (λ f m. absurd (let z : _≡_ {A = ℕ} 1 0 = rw f at e in omega arith))
     (λ f m.
-    by-test (eqb (u16At s 2) 1)
+    by-test (eqb (kindAt s 0) 1)
     (λ t.
-    let passes : (headOk s 4 (u16At s 0) ≡ true) × (horizonOk (inputsOf (getD s 4 0) (getD s 5 0) (getD s 6 0)) (getD s 7 0) ≡ true) =
-    head-passes s 4 (u16At s 0) (λ h. readRecords (suc (length s)) s h (offset s 0)) (rw (f, t) at e) in
-    let kind : u16At s 2 ≡ 1 = eqb-true (u16At s 2) 1 t in
+    let passes : (headOk s 4 (sizeAt s 0) ≡ true) × (horizonOk (inputsOf (modeAt s 4) (siteAt s 4) (outputsAt s 4)) (horizonAt s 4) ≡ true) =
+    head-passes s 4 (sizeAt s 0) (λ h. readRecords (suc (length s)) s h (offset s 0)) (rw (f, t) at e) in
+    let kind : kindAt s 0 ≡ 1 = eqb-true (kindAt s 0) 1 t in
     let more : reading s ≡ readRecords (suc (length s)) s (upto s 0) (offset s 0) = head-whole s kind (passes .0) (passes .1) m in
     let r : (k : ℕ) × Walk (suc (length s)) s 0 k = walk-finds (suc (length s)) s 0 (omega arith) m (rw more at e) in (
       r .0,

@@ -5,6 +5,7 @@ use mathlib.Core.List.{List}
 use Prim.Native.Nat.{ℕ, _+_, _*_, _≤_, _<_}
 use lib.ListN.{length, getD}
 use Rattle.records.specs.Lists.{tab}
+use Rattle.records.specs.Limits.{maxMonitors}
 use Rattle.sheet.specs.Decoded.{Automaton, Decoded, SheetOk, lettersOf, inputsOf}
 use Rattle.sheet.specs.Layout.{noMonitor}
 use Rattle.sheet.specs.declared.layout.Monitor.{Monitor}
@@ -45,7 +46,7 @@ decoded s h =
 -- a layout that code can follow: it stands for a sheet in bounds, and every monitor lies inside the bytes
 pub record Fits (s : List ℕ) (h : Sheet) : Type 0 where
   pub ok : SheetOk (decoded s h)
-  pub count : h .count ≤ 6
+  pub count : h .count ≤ maxMonitors
   pub inputs : h .inputs ≡ inputsOf (h .mode) (h .site) (h .outputs)
   pub accept : (j : ℕ) → j < h .count → placed h j .accept + placed h j .states ≤ length s
   pub rows : (j : ℕ) → j < h .count → placed h j .rows + placed h j .states * width h (placed h j) ≤ length s

@@ -11,6 +11,8 @@ use lib.Seq.{getD-append-add}
 use lib.Arith.{digits-lt}
 use Rattle.records.specs.Lists.{tab, tab-eq, cat, length-cat, getD-cat, cat-each}
 use Rattle.records.specs.Numbers.{u16At}
+use Rattle.records.specs.Cursor.{sizeAt, kindAt, bodyAt}
+use Rattle.fields.specs.Places.{roleAt, weightAt, statesAt, firstAt}
 use Rattle.sheet.specs.Decoded.{Automaton, Decoded, letters, lettersOf, MonitorOk, encodeMonitor}
 use Rattle.sheet.specs.Where.{automaton}
 use Rattle.sheet.specs.Monitor.{monitorOk, monitorAt}
@@ -37,27 +39,27 @@ module _ (s p r : List ℕ) (d : Decoded) (a : Automaton) (o : MonitorOk d a) (e
   from : (k : ℕ) → getD s (length p + k) 0 ≡ getD (encodeMonitor d a ++ r) k 0
   from k = rw e (getD-append-add p (encodeMonitor d a ++ r) k 0)
 
-  pub size-back : u16At s (length p) ≡ 4 + length (a .accept) + length (a .accept) * letters d a
+  pub size-back : sizeAt s (length p) ≡ 4 + length (a .accept) + length (a .accept) * letters d a
   unfolding u16At encodeMonitor
   size-back = rw (from 1, rw (add-zero (length p)) at (from 0)) (omega arith)
 
-  pub kind-back : u16At s (length p + 2) ≡ 2
+  pub kind-back : kindAt s (length p) ≡ 2
   unfolding u16At encodeMonitor
   kind-back = rw (add-assoc (length p) 2 1, from 2, from 3)
 
-  role-back : getD s (length p + 4) 0 ≡ a .role
+  role-back : roleAt s (bodyAt (length p)) ≡ a .role
   unfolding encodeMonitor
   role-back = from 4
 
-  weight-back : getD s (length p + 4 + 1) 0 ≡ a .weight
+  weight-back : weightAt s (bodyAt (length p)) ≡ a .weight
   unfolding encodeMonitor
   weight-back = rw (add-assoc (length p) 4 1) (from 5)
 
-  states-back : getD s (length p + 4 + 2) 0 ≡ length (a .accept)
+  states-back : statesAt s (bodyAt (length p)) ≡ length (a .accept)
   unfolding encodeMonitor
   states-back = rw (add-assoc (length p) 4 2) (from 6)
 
-  start-back : getD s (length p + 4 + 3) 0 ≡ a .start
+  start-back : firstAt s (bodyAt (length p)) ≡ a .start
   unfolding encodeMonitor
   start-back = rw (add-assoc (length p) 4 3) (from 7)
 
@@ -94,10 +96,10 @@ module _ (s p r : List ℕ) (d : Decoded) (a : Automaton) (o : MonitorOk d a) (e
   -- ---- under a layout with the sheet's lines
 
   module _ (h : Sheet) (mode : h .mode ≡ d .mode) (site : h .site ≡ d .site) (outputs : h .outputs ≡ d .outputs) where
-    wide : lettersOf (getD s (length p + 4) 0) (h .site) (h .outputs) ≡ letters d a
+    wide : lettersOf (roleAt s (bodyAt (length p))) (h .site) (h .outputs) ≡ letters d a
     wide = rw (role-back, site, outputs)
 
-    body : Body s (length p + 4) (letters d a) (u16At s (length p))
+    body : Body s (bodyAt (length p)) (letters d a) (sizeAt s (length p))
     body =
         record {
           states-least = rw states-back (o .states-least);
@@ -112,17 +114,17 @@ module _ (s p r : List ℕ) (d : Decoded) (a : Automaton) (o : MonitorOk d a) (e
               k (rw (length-rowBytes d a o) l)));
         }
 
-    role : Role (h .mode) (getD s (length p + 4) 0) (getD s (length p + 4 + 1) 0)
+    role : Role (h .mode) (roleAt s (bodyAt (length p))) (weightAt s (bodyAt (length p)))
     role =
         rw (mode, role-back, weight-back)
         (record { role-most = o .role; limit = o .limit; soft = o .soft; unweighted = o .unweighted })
 
     -- the record passes its tests
-    pub monitor-passes : monitorOk s h (length p + 4) (u16At s (length p)) ≡ true
-    monitor-passes = monitor-test s h (length p + 4) (u16At s (length p)) role (rw wide body)
+    pub monitor-passes : monitorOk s (h .mode) (h .site) (h .outputs) (bodyAt (length p)) (sizeAt s (length p)) ≡ true
+    monitor-passes = monitor-test s (h .mode) (h .site) (h .outputs) (bodyAt (length p)) (sizeAt s (length p)) role (rw wide body)
 
     -- and is read as the automaton that was written
-    pub monitor-back : automaton s h (monitorAt s (length p + 4)) ≡ a
+    pub monitor-back : automaton s h (monitorAt s (bodyAt (length p))) ≡ a
     unfolding automaton monitorAt
     monitor-back =
         rw (wide, states-back)

@@ -6,16 +6,19 @@ use crate::layout::Sheet;
 use fields::head::head_ok;
 use fields::head::inputs_of;
 use fields::head::literal_at;
+use records::limits::Limits;
 use records::limits::horizon_ok;
 ghost use mathlib.Core.Path.{_≡_};
 ghost use mathlib.Core.Bool.{true};
 ghost use Prim.Native.Nat.{_+_, _<_, _≤_};
-ghost use lib.ListN.{length, getD};
+ghost use lib.ListN.{length};
+ghost use Rattle.records.specs.Limits.{maxInputs, maxOutputs};
+ghost use Rattle.fields.specs.Places.{siteAt, outputsAt, literalsFrom};
 ghost use Rattle.sheet.specs.Head.{headSheet, readHead};
 
 // The sheet of a head that is in order, with no monitors yet.
 pub fn head_sheet(s: &[u8], start: usize) -> Sheet
-    requires { ⌜ (getD (now s) (start + 1) 0 ≤ 4) × ((getD (now s) (start + 2) 0 ≤ 3) × (start + 5 + getD (now s) (start + 2) 0 ≤ length (now s))) ⌝ }
+    requires { ⌜ (siteAt (now s) start ≤ maxInputs) × ((outputsAt (now s) start ≤ maxOutputs) × (literalsFrom start + outputsAt (now s) start ≤ length (now s))) ⌝ }
     ensures { λ r. ⌜ r ≡ headSheet (now (s .entry)) start ⌝ }
 {
     let outputs = s[start + 2];
@@ -32,7 +35,7 @@ pub fn head_sheet(s: &[u8], start: usize) -> Sheet
             literal_at(s, start, outputs, 1),
             literal_at(s, start, outputs, 2),
         ],
-        monitors: [none; 6],
+        monitors: [none; Limits::MONITORS],
         count: 0,
     }
 }

@@ -1,6 +1,8 @@
 // What a reader knows of a sheet: its numbers, and where the monitors lie in its bytes.
+use records::limits::Limits;
 ghost use mathlib.Core.Path.{_≡_};
 ghost use Prim.Native.Nat.{_<_};
+ghost use Rattle.records.specs.Limits.{maxMonitors};
 ghost use Rattle.sheet.specs.Layout.{noMonitor, blank, withMonitor, accepted, refused, groundNumber};
 
 // One monitor: its numbers, and where its accept bytes and its rows of next states begin.
@@ -22,8 +24,8 @@ pub struct Sheet {
     pub outputs: u8,
     pub horizon: u8,
     pub matching: u8,
-    pub literals: [u8; 3],
-    pub monitors: [Monitor; 6],
+    pub literals: [u8; Limits::OUTPUTS as usize],
+    pub monitors: [Monitor; Limits::MONITORS],
     pub count: usize,
 }
 
@@ -88,9 +90,6 @@ impl Monitor {
 }
 
 impl Sheet {
-    // A sheet has at most so many monitors.
-    pub const MONITORS: usize = 6;
-
     pub fn blank() -> Sheet
         ensures { λ r. ⌜ r ≡ blank ⌝ }
     {
@@ -102,15 +101,15 @@ impl Sheet {
             outputs: 0,
             horizon: 0,
             matching: 0,
-            literals: [0; 3],
-            monitors: [none; 6],
+            literals: [0; Limits::OUTPUTS as usize],
+            monitors: [none; Limits::MONITORS],
             count: 0,
         }
     }
 
     // The sheet with one more monitor.
     pub fn with_monitor(self, m: Monitor) -> Sheet
-        requires { ⌜ self .count < 6 ⌝ }
+        requires { ⌜ self .count < maxMonitors ⌝ }
         ensures { λ r. ⌜ r ≡ withMonitor self m ⌝ }
     {
         let at = self.count;

@@ -7,17 +7,21 @@ use fields::monitor::bytes_most;
 use fields::monitor::letters_of;
 use fields::monitor::role_ok;
 use fields::monitor::states_ok;
+use fields::places::Fixed;
+use records::limits::Limits;
 ghost use mathlib.Core.Path.{_≡_};
 ghost use Prim.Native.Nat.{_+_, _<_, _≤_};
-ghost use lib.ListN.{length, getD};
+ghost use lib.ListN.{length};
+ghost use Rattle.records.specs.Limits.{maxLines};
+ghost use Rattle.fields.specs.Places.{acceptFrom};
 ghost use Rattle.sheet.specs.Monitor.{monitorOk, monitorAt, takeMonitor};
 
 // Whether a monitor's body is in order; its tables are looked at only where its numbers are.
 pub fn monitor_ok(s: &[u8], sheet: Sheet, start: usize, size: usize) -> bool
-    requires { ⌜ (sheet .site + sheet .outputs ≤ 6) × (start + size ≤ length (now s)) ⌝ }
-    ensures { λ r. ⌜ r ≡ monitorOk (now (s .entry)) sheet start size ⌝ }
+    requires { ⌜ (sheet .site + sheet .outputs ≤ maxLines) × (start + size ≤ length (now s)) ⌝ }
+    ensures { λ r. ⌜ r ≡ monitorOk (now (s .entry)) (sheet .mode) (sheet .site) (sheet .outputs) start size ⌝ }
 {
-    if size < 4 {
+    if size < Fixed::MONITOR {
         return false;
     }
     if !role_ok(sheet.mode, s[start], s[start + 1]) {
@@ -29,15 +33,15 @@ pub fn monitor_ok(s: &[u8], sheet: Sheet, start: usize, size: usize) -> bool
         return false;
     }
     let n = states as usize;
-    if !bytes_most(s, start + 4, n, 1) {
+    if !bytes_most(s, start + Fixed::MONITOR, n, 1) {
         return false;
     }
-    bytes_most(s, start + 4 + n, n * letters, states - 1)
+    bytes_most(s, start + Fixed::MONITOR + n, n * letters, states - 1)
 }
 
 // The monitor of a body.
 pub fn monitor_at(s: &[u8], start: usize) -> Monitor
-    requires { ⌜ start + 4 ≤ length (now s) ⌝ }
+    requires { ⌜ acceptFrom start ≤ length (now s) ⌝ }
     ensures { λ r. ⌜ r ≡ monitorAt (now (s .entry)) start ⌝ }
 {
     let states = s[start + 2];
@@ -46,17 +50,17 @@ pub fn monitor_at(s: &[u8], start: usize) -> Monitor
         weight: s[start + 1],
         states,
         start: s[start + 3],
-        accept: start + 4,
-        rows: start + 4 + (states as usize),
+        accept: start + Fixed::MONITOR,
+        rows: start + Fixed::MONITOR + (states as usize),
     }
 }
 
 // A monitor's record, refused 5 before 4.
 pub fn take_monitor(s: &[u8], sheet: Sheet, start: usize, size: usize) -> Reading
-    requires { ⌜ (sheet .site + sheet .outputs ≤ 6) × (start + size ≤ length (now s)) ⌝ }
+    requires { ⌜ (sheet .site + sheet .outputs ≤ maxLines) × (start + size ≤ length (now s)) ⌝ }
     ensures { λ r. ⌜ r ≡ takeMonitor (now (s .entry)) sheet start size ⌝ }
 {
-    if Sheet::MONITORS <= sheet.count {
+    if Limits::MONITORS <= sheet.count {
         return Reading::refused(Refusal::SeventhMonitor);
     }
     if !monitor_ok(s, sheet, start, size) {

@@ -10,12 +10,13 @@ use records::cursor::Found;
 ghost use mathlib.Core.Path.{_≡_};
 ghost use Prim.Native.Nat.{_+_, suc, _≤_};
 ghost use lib.ListN.{length};
+ghost use Rattle.records.specs.Limits.{maxLines};
 ghost use Rattle.sheet.specs.Reader.{takeRecord, readRecords, reading};
 ghost use Rattle.sheet.specs.Promises.{Reads};
 
 // A record after the head.
 pub fn take_record(s: &[u8], sheet: Sheet, kind: u16, start: usize, size: usize) -> Reading
-    requires { ⌜ (sheet .site + sheet .outputs ≤ 6) × (start + size ≤ length (now s)) ⌝ }
+    requires { ⌜ (sheet .site + sheet .outputs ≤ maxLines) × (start + size ≤ length (now s)) ⌝ }
     ensures { λ r. ⌜ r ≡ takeRecord (now (s .entry)) sheet kind start size ⌝ }
 {
     match kind {
@@ -26,7 +27,7 @@ pub fn take_record(s: &[u8], sheet: Sheet, kind: u16, start: usize, size: usize)
 
 // The records after the head.
 pub fn read_records(s: &[u8], head: Sheet, from: usize) -> Reading
-    requires { ⌜ head .site + head .outputs ≤ 6 ⌝ }
+    requires { ⌜ head .site + head .outputs ≤ maxLines ⌝ }
     ensures { λ r. ⌜ r ≡ readRecords (suc (length (now (s .entry)))) (now (s .entry)) head from ⌝ }
 {
     let mut sheet = head;

@@ -25,7 +25,7 @@ pub head-facts : (t : List ℕ) → headOk t ≡ true → Head t
 unfolding headOk fieldsOk sizeOk
 head-facts t e =
     record {
-      long = leb-true 10 (length t) (search (and-left, and-right));
+      long = leb-true 10 (length t) (search and-left);
       lines = search (and-left, and-right);
       horizon = search (and-left, and-right) depth 9;
       count-least = leb-true 1 (u16At t 8) (search (and-left, and-right) depth 9);

@@ -8,7 +8,7 @@ use lib.Dec.{ltb, leb, eqb}
 use lib.ListN.{length, getD}
 use Rattle.records.specs.Bounded.{all}
 use Rattle.records.specs.Numbers.{u16At}
-use Rattle.records.specs.Limits.{maxStates, linesOk, horizonOk}
+use Rattle.records.specs.Limits.{maxInputs, maxOutputs, maxStates, linesOk, horizonOk}
 use Rattle.records.specs.Layout.{entryWidth, tableLength, entryAt, headerIs}
 use Rattle.records.specs.GuardTable.{rowAt}
 
@@ -46,7 +46,7 @@ loadable t = headOk t && rowsOk t (getD t 5 0) (getD t 6 0) (u16At t 8)
 
 -- what the tests of the rows may take for granted: the slice is as long as the head's fields in bounds say
 pub record Sized (t : List ℕ) (inputs outputs count : ℕ) : Type 0 where
-  pub inputs-most : inputs ≤ 4
-  pub outputs-most : outputs ≤ 3
+  pub inputs-most : inputs ≤ maxInputs
+  pub outputs-most : outputs ≤ maxOutputs
   pub count-most : count ≤ maxStates
   pub fills : length t ≡ tableLength inputs count

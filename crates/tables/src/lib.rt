@@ -1,6 +1,5 @@
 // Which slices are guard tables that a board may load.
 use records::layout::Layout;
-use records::layout::header_is;
 use records::limits::horizon_ok;
 use records::limits::lines_ok;
 use records::numbers::pow2;
@@ -8,13 +7,13 @@ use records::numbers::u16_at;
 ghost use mathlib.Core.Path.{_≡_};
 ghost use Prim.Native.Nat.{_+_, _<_, _≤_};
 ghost use lib.ListN.{length};
-ghost use Rattle.records.specs.Limits.{maxStates};
+ghost use Rattle.records.specs.Limits.{maxInputs, maxOutputs, maxStates};
 ghost use Rattle.records.specs.GuardTable.{rowAt};
 ghost use Rattle.tables.specs.Loadable.{sizeOk, fieldsOk, headOk, entryOk, entriesOk, rowOk, rowsOk, loadable, Sized};
 
 // Whether the count is in range, and the slice is as long as a table of so many states.
 fn size_ok(inputs: u8, count: u16, size: usize) -> bool
-    requires { ⌜ inputs ≤ 4 ⌝ }
+    requires { ⌜ inputs ≤ maxInputs ⌝ }
     ensures { λ r. ⌜ r ≡ sizeOk inputs count size ⌝ }
 {
     if count < 1 {
@@ -45,15 +44,18 @@ fn head_ok(t: &[u8]) -> bool
     if t.len() < 10 {
         return false;
     }
-    if header_is(t, 0, 6, 16) {
-        return fields_ok(t[4], t[5], t[6], t[7], u16_at(t, 8), t.len());
+    if u16_at(t, 0) != 6 {
+        return false;
     }
-    false
+    match u16_at(t, 2) {
+        16 => fields_ok(t[4], t[5], t[6], t[7], u16_at(t, 8), t.len()),
+        0..=15 | 17..=65535 => false,
+    }
 }
 
 // Whether the output and the next state of an entry are in range.
 pub fn entry_ok(t: &[u8], at: usize, outputs: u8, count: usize) -> bool
-    requires { ⌜ (at + 1 < length (now t)) × (outputs ≤ 3) ⌝ }
+    requires { ⌜ (at + 1 < length (now t)) × (outputs ≤ maxOutputs) ⌝ }
     ensures { λ r. ⌜ r ≡ entryOk (now (t .entry)) at outputs count ⌝ }
 {
     let output = t[at] as usize;
@@ -83,7 +85,7 @@ fn entries_ok(t: &[u8], inputs: u8, outputs: u8, count: usize, place: usize) -> 
 
 // Where the row of a state begins.
 fn row_at(inputs: u8, place: usize) -> usize
-    requires { ⌜ (inputs ≤ 4) × (place ≤ maxStates) ⌝ }
+    requires { ⌜ (inputs ≤ maxInputs) × (place ≤ maxStates) ⌝ }
     ensures { λ r. ⌜ r ≡ rowAt inputs place ⌝ }
 {
     10 + place * Layout { inputs }.row_length()
@@ -94,11 +96,15 @@ fn row_ok(t: &[u8], inputs: u8, outputs: u8, count: usize, place: usize) -> bool
     requires { ⌜ Sized (now t) inputs outputs count × (place < count) ⌝ }
     ensures { λ r. ⌜ r ≡ rowOk (now (t .entry)) inputs outputs count place ⌝ }
 {
-    let size = 2 * pow2(inputs);
-    if header_is(t, row_at(inputs, place), size as u16, 17) {
-        return entries_ok(t, inputs, outputs, count, place);
+    let at = row_at(inputs, place);
+    let size = u16_at(t, at) as usize;
+    if size != 2 * pow2(inputs) {
+        return false;
     }
-    false
+    match u16_at(t, at + 2) {
+        17 => entries_ok(t, inputs, outputs, count, place),
+        0..=16 | 18..=65535 => false,
+    }
 }
 
 // Whether the row of every state is in order.

@@ -9,6 +9,7 @@ use lib.Pow.{pow-mono}
 use denote.Ref.{now}
 use Rattle.records.specs.Tests.{said-no, said-yes}
 use Rattle.records.specs.Bounded.{all, all-of, all-fails}
+use Rattle.records.specs.Limits.{maxInputs}
 use Rattle.records.specs.Layout.{entryAt}
 use Rattle.records.specs.GuardTable.{entry-inside}
 use Rattle.tables.specs.Loadable.{entryOk, entriesOk}
@@ -39,7 +40,7 @@ abbrev entry : tie.At-loop Inv-loop μ-loop → tie.Start Inv-loop μ-loop
 entry c = c .before .before .before
 
 few : (c : tie.At-loop Inv-loop μ-loop) → 2 ^ entry c .args .inputs ≤ 16
-few c = let m = pow-mono {i = entry c .args .inputs} {j = 4} (omega arith) in omega (arith, m)
+few c = let m = pow-mono {i = entry c .args .inputs} {j = maxInputs} (omega arith) in omega (arith, m)
 
 below : (c : tie.After-entry-at Inv-loop μ-loop) → turn c .loop .left - 1 < 2 ^ entry (turn c) .args .inputs
 below c = omega (arith, c .before .loop-test .taken, turn c .loop .inv .0)

@@ -2,13 +2,14 @@
 use native.Mathlib.Omega.{arith}
 use native.Mathlib.Nat.{mul-le-mul}
 use Prim.Native.Nat.{_*_, _≤_}
+use Rattle.records.specs.Limits.{maxStates}
 use Rattle.records.specs.GuardTable.{rowAt}
 use borrow.Author.Needs.{needs}
 use Rattle.tables.proofs.row_at.Statement.{statement}
 use Rattle.tables.proofs.row_at.Tie as tie
 
 rows : (c : tie.After-row-length) → c .before .args .place * c .row-length .result ≤ 9216
-rows c = mul-le-mul {n₂ = 256} {m₂ = 36} (omega arith) (omega arith)
+rows c = mul-le-mul {n₂ = maxStates} {m₂ = 36} (omega arith) (omega arith)
 
 row-length-requires : tie.Need-row-length-requires
 row-length-requires c κs = search needs

@@ -1,66 +1,84 @@
 -- `tables::row_ok`: the tests in the definition's order. Assumes nothing.
 use native.Mathlib.Omega.{arith}
-use mathlib.Core.Path.{_≡_}
-use mathlib.Core.Bool.{Bool, true, false}
-use Prim.Native.Nat.{_≤_, _*_, _^_}
+use Prim.Native.Nat.{_+_, _≤_, _<_}
+use lib.ListN.{length}
 use lib.Pow.{pow-mono}
 use denote.Ref.{now}
-use Rattle.records.specs.Tests.{said}
-use Rattle.records.specs.Layout.{entryWidth, headerIs}
-use Rattle.records.specs.GuardTable.{rowAt, row-inside}
+use Rattle.records.specs.Tests.{cases}
+use Rattle.records.specs.Limits.{maxInputs}
+use Rattle.records.specs.Layout.{headerIs}
+use Rattle.records.specs.GuardTable.{row-inside}
 use Rattle.tables.specs.Loadable.{rowOk}
 use borrow.Author.Needs.{needs}
 use Rattle.tables.proofs.row_ok.Statement.{statement}
 use Rattle.tables.proofs.row_ok.Tie as tie
 
-abbrev entry : tie.After-pow2 → tie.Start
+abbrev entry : tie.After-row-at → tie.Start
 entry c = c .before .before
 
+-- the row's header lies inside the slice
+inside : (c : tie.After-row-at) → c .row-at .result + 3 < length (now (entry c .args .t))
+inside c = let s = entry c in
+    omega (arith, row-inside (s .args .inputs) (s .args .place) (s .args .count) (s .pre .1), c .row-at .ensures, s .pre .0 .fills)
+
+abbrev placed : tie.After-pow2 → tie.After-row-at
+placed c = c .before .before
+
 few : (c : tie.After-pow2) → c .pow2 .result ≤ 16
-few c = let m = pow-mono {i = entry c .args .inputs} {j = 4} (omega arith) in omega (arith, m, c .pow2 .ensures)
-
--- the test of the header is the definition's
-header-test : (c : tie.After-header-is) (f : Bool) → c .header-is .result ≡ f
-    → headerIs (now (entry (c .before .before) .args .t)) (rowAt (entry (c .before .before) .args .inputs) (entry (c .before .before) .args .place))
-    (entryWidth * 2 ^ entry (c .before .before) .args .inputs) 17 ≡ f
-header-test c f e = rw (c .before .row-at .ensures, c .before .before .pow2 .ensures) at (said (c .header-is .ensures) e)
-
-pow2-requires : tie.Need-pow2-requires
-pow2-requires c κs = search needs
-
-mul-size : tie.Need-mul-size
-mul-size c = omega (arith, few c)
+few c = let m = pow-mono {i = entry (placed c) .args .inputs} {j = maxInputs} (omega arith) in omega (arith, m, c .pow2 .ensures)
 
 row-at-requires : tie.Need-row-at-requires
 row-at-requires c κs = search needs
 
-cast-header-is : tie.Need-cast-header-is
-cast-header-is c = omega (arith, few (c .before))
+u16-at-requires : tie.Need-u16-at-requires
+u16-at-requires c κs = omega (arith, inside c)
 
-header-is-requires : tie.Need-header-is-requires
-header-is-requires c κs = let s = entry (c .before) in
-    omega (arith, row-inside (s .args .inputs) (s .args .place) (s .args .count) (s .pre .1), c .row-at .ensures, s .pre .0 .fills)
+cast-size : tie.Need-cast-size
+cast-size c = search needs
+
+pow2-requires : tie.Need-pow2-requires
+pow2-requires c κs = search needs
+
+mul-if1 : tie.Need-mul-if1
+mul-if1 c = omega (arith, few c)
+
+returns : tie.Need-returns
+unfolding rowOk headerIs
+returns c = let s = c .before in search (cases, ← placed s .row-at .ensures, ← s .pow2 .ensures, ← s .before .u16-at .ensures)
+
+add-u16-at : tie.Need-add-u16-at
+add-u16-at c = omega (arith, inside (placed (c .before)))
+
+u16-at-requires-2 : tie.Need-u16-at-requires-2
+u16-at-requires-2 c κs = omega (arith, inside (placed (c .before)))
 
 entries-ok-requires : tie.Need-entries-ok-requires
 entries-ok-requires c κs = search needs
 
-returns : tie.Need-returns
-unfolding rowOk
-returns c = simp (header-test (c .before .before) true (c .before .if1 .taken)) (c .entries-ok .ensures)
-
 returns-2 : tie.Need-returns-2
-unfolding rowOk
-returns-2 c = simp (header-test (c .before) false (c .if1 .left))
+unfolding rowOk headerIs
+returns-2 c = let k = c .before .before in
+    let s = k .before .before in
+    search (cases, ← placed s .row-at .ensures, ← s .pow2 .ensures, ← s .before .u16-at .ensures, ← k .u16-at2 .ensures, c .entries-ok .ensures)
+
+returns-3 : tie.Need-returns-3
+unfolding rowOk headerIs
+returns-3 c = let k = c .before in
+    let s = k .before .before in
+    search (cases, ← placed s .row-at .ensures, ← s .pow2 .ensures, ← s .before .u16-at .ensures, ← k .u16-at2 .ensures)
 
 pub row-ok-spec : {M : Type 1} → statement M
 row-ok-spec =
     tie.close
     (tie.spec
-    pow2-requires
-    mul-size
     row-at-requires
-    cast-header-is
-    header-is-requires
-    entries-ok-requires
+    u16-at-requires
+    cast-size
+    pow2-requires
+    mul-if1
     returns
-    returns-2)
+    add-u16-at
+    u16-at-requires-2
+    entries-ok-requires
+    returns-2
+    returns-3)

@@ -1,9 +1,18 @@
 -- `fields::head::literal_ok`: the tests in the definition's order. Assumes nothing.
+use Prim.Native.Nat.{ℕ, _+_}
+use native.Mathlib.Omega.{arith}
+use borrow.Author.Tests.{le-ltb}
 use borrow.Author.Needs.{needs}
+use denote.Ref.{now}
+use lib.ListN.{getD}
 use Rattle.records.specs.Tests.{cases}
+use Rattle.records.specs.Limits.{literalEnd}
 use Rattle.fields.specs.Head.{literalOk}
 use Rattle.fields.proofs.head.literal_ok.Statement.{statement}
 use Rattle.fields.proofs.head.literal_ok.Tie as tie
+
+abbrev literal : tie.Start → ℕ
+literal c = getD (now (c .args .s)) (c .args .at + c .args .j) 0
 
 add-literal : tie.Need-add-literal
 add-literal c = search needs
@@ -13,7 +22,7 @@ shared-slice-read-literal c = search needs
 
 returns : tie.Need-returns
 unfolding literalOk
-returns c = search cases
+returns c = simp (le-ltb (literal (c .before .before .before)) literalEnd (omega arith))
 
 returns-2 : tie.Need-returns-2
 unfolding literalOk

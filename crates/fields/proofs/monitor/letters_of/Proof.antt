@@ -1,16 +1,13 @@
--- `fields::monitor::letters_of`: at most six lines make at most 64 letters. Assumes nothing.
+-- `fields::monitor::letters_of`: an arm for role 2, one for the rest; at most six lines make at most 64 letters. Assumes nothing.
 use Prim.Native.Nat.{_+_}
 use native.Mathlib.Omega.{arith}
 use borrow.Author.Needs.{needs}
 use lib.Pow.{pow-mono}
 use Rattle.records.specs.Tests.{cases}
+use Rattle.records.specs.Limits.{maxLines}
 use Rattle.fields.specs.Lines.{lettersOf}
 use Rattle.fields.proofs.monitor.letters_of.Statement.{statement}
 use Rattle.fields.proofs.monitor.letters_of.Tie as tie
-
-returns : tie.Need-returns
-unfolding lettersOf
-returns c = (search cases, omega arith)
 
 add-pow2 : tie.Need-add-pow2
 add-pow2 c = search needs
@@ -18,10 +15,14 @@ add-pow2 c = search needs
 pow2-requires : tie.Need-pow2-requires
 pow2-requires c κs = search needs
 
+returns : tie.Need-returns
+unfolding lettersOf
+returns c = (search (cases, c .match .keys1), omega arith)
+
 returns-2 : tie.Need-returns-2
 unfolding lettersOf
 returns-2 c = let at = c .before .before .args in
-    (search (cases, c .pow2 .ensures), omega (arith, c .pow2 .ensures, pow-mono {i = at .site + at .outputs} {j = 6} (omega arith)))
+    (search (cases, c .pow2 .ensures), omega (arith, c .pow2 .ensures, pow-mono {i = at .site + at .outputs} {j = maxLines} (omega arith)))
 
 pub letters-of-spec : {M : Type 1} → statement M
-letters-of-spec = tie.close (tie.spec returns add-pow2 pow2-requires returns-2)
+letters-of-spec = tie.close (tie.spec add-pow2 pow2-requires returns returns-2)

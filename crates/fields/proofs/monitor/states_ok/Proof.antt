@@ -5,15 +5,16 @@ use native.Mathlib.Omega.{arith}
 use native.Mathlib.Nat.{mul-le-mul}
 use borrow.Author.Needs.{needs}
 use Rattle.records.specs.Tests.{cases}
+use Rattle.records.specs.Limits.{maxMonitorStates}
 use Rattle.fields.specs.Monitor.{statesOk}
 use Rattle.fields.proofs.monitor.states_ok.Statement.{statement}
 use Rattle.fields.proofs.monitor.states_ok.Tie as tie
 
 -- the size of the rows
-rows : (c : tie.Else3) → c .before .before .before .args .states * c .before .before .before .args .letters ≤ 32 * 64
+rows : (c : tie.Else3) → c .before .before .before .args .states * c .before .before .before .args .letters ≤ maxMonitorStates * 64
 rows c =
     let at = c .before .before .before .args in
-    mul-le-mul {n₁ = at .states} {m₁ = at .letters} {n₂ = 32} {m₂ = 64} (omega arith) (omega arith)
+    mul-le-mul {n₁ = at .states} {m₁ = at .letters} {n₂ = maxMonitorStates} {m₂ = 64} (omega arith) (omega arith)
 
 returns : tie.Need-returns
 unfolding statesOk

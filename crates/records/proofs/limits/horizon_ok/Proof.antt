@@ -1,8 +1,9 @@
 -- `records::limits::horizon_ok`: the tests in the definition's order. Assumes nothing.
 use native.Mathlib.Omega.{arith}
 use native.Mathlib.Nat.{mul-le-mul}
+use borrow.Author.Needs.{needs}
 use Rattle.records.specs.Tests.{cases}
-use Rattle.records.specs.Limits.{horizonOk}
+use Rattle.records.specs.Limits.{maxHorizon, horizonOk}
 use Rattle.records.proofs.limits.horizon_ok.Statement.{statement}
 use Rattle.records.proofs.limits.horizon_ok.Tie as tie
 
@@ -11,11 +12,14 @@ unfolding horizonOk
 returns c = search cases
 
 mul-result : tie.Need-mul-result
-mul-result c = omega (arith, mul-le-mul {n₁ = c .before .args .inputs} {m₁ = c .before .args .horizon} {n₂ = 255} {m₂ = 24} (omega arith) (omega arith))
+mul-result c = omega (arith, mul-le-mul {n₁ = c .before .args .inputs} {m₁ = c .before .args .horizon} {n₂ = 255} {m₂ = maxHorizon} (omega arith) (omega arith))
+
+cast-result : tie.Need-cast-result
+cast-result c = search needs
 
 returns-2 : tie.Need-returns-2
 unfolding horizonOk
 returns-2 c = search cases
 
 pub horizon-ok-spec : {M : Type 1} → statement M
-horizon-ok-spec = tie.close (tie.spec returns mul-result returns-2)
+horizon-ok-spec = tie.close (tie.spec returns mul-result cast-result returns-2)

@@ -6,17 +6,18 @@ use borrow.Author.Tests.{le-leb, lt-leb}
 use borrow.Author.Needs.{needs}
 use lib.Dec.{leb}
 use Rattle.records.specs.Tests.{said-no, said-yes}
+use Rattle.records.specs.Limits.{maxMonitors}
 use Rattle.sheet.specs.Monitor.{takeMonitor}
 use Rattle.sheet.proofs.Facts.{monitor-least}
 use Rattle.sheet.proofs.monitor.take_monitor.Statement.{statement}
 use Rattle.sheet.proofs.monitor.take_monitor.Tie as tie
 
 -- whether there is room for one more
-full : (c : tie.Then1) → leb 6 (c .before .before .before .args .sheet .count) ≡ true
-full c = le-leb 6 (c .before .before .before .args .sheet .count) (omega arith)
+full : (c : tie.Then1) → leb maxMonitors (c .before .before .before .args .sheet .count) ≡ true
+full c = le-leb maxMonitors (c .before .before .before .args .sheet .count) (omega arith)
 
-room : (c : tie.Else1) → leb 6 (c .before .before .before .args .sheet .count) ≡ false
-room c = lt-leb 6 (c .before .before .before .args .sheet .count) (omega arith)
+room : (c : tie.Else1) → leb maxMonitors (c .before .before .before .args .sheet .count) ≡ false
+room c = lt-leb maxMonitors (c .before .before .before .args .sheet .count) (omega arith)
 
 refused-requires : tie.Need-refused-requires
 refused-requires c κs = search needs
@@ -37,7 +38,7 @@ returns-2 c = let t = c .before .before in
     simp (room (t .before), said-no (t .monitor-ok .ensures) (c .before .if2 .taken)) (c .refused2 .ensures)
 
 monitor-at-requires : tie.Need-monitor-at-requires
-monitor-at-requires c κs = omega (arith, monitor-least _ _ _ _ (said-yes (c .before .monitor-ok .ensures) (c .if2 .left)))
+monitor-at-requires c κs = omega (arith, monitor-least _ _ _ _ _ _ (said-yes (c .before .monitor-ok .ensures) (c .if2 .left)))
 
 with-monitor-requires : tie.Need-with-monitor-requires
 with-monitor-requires c κs = search needs

@@ -22,7 +22,7 @@ begun c = c .before .before .before
 here : (c : tie.After-kind)
     → readAt (now (begun c .before .before .args .s)) 0
     ≡ found.Record (c .kind .given .0 .0) (c .kind .given .0 .1 .0) (c .kind .given .0 .1 .1 .0) (c .kind .given .0 .1 .1 .1 .0)
-here c = rw (begun c .first .ensures) at (said (c .before .before .read .ensures) (c .kind .given .1))
+here c = rw (begun c .first .ensures) at (said (c .before .before .read .ensures .whole) (c .kind .given .1))
 
 -- a head's kind, and any other
 is-head : (c : tie.At-match2-keys1) → eqb (c .before .before .kind .given .0 .0) 1 ≡ true
@@ -75,12 +75,12 @@ refused-requires-4 c κs = search needs
 returns : tie.Need-returns
 unfolding reading firstFound
 returns c = let f = c .before .before .before in
-    simp (rw (f .before .first .ensures) at (said (f .read .ensures) (c .before .enum-told .given .1))) (c .refused .ensures)
+    simp (rw (f .before .first .ensures) at (said (f .read .ensures .whole) (c .before .enum-told .given .1))) (c .refused .ensures)
 
 returns-2 : tie.Need-returns-2
 unfolding reading firstFound
 returns-2 c = let f = c .before .before .before in
-    simp (rw (f .before .first .ensures) at (said (f .read .ensures) (c .before .enum-told2 .given .1))) (c .refused2 .ensures)
+    simp (rw (f .before .first .ensures) at (said (f .read .ensures .whole) (c .before .enum-told2 .given .1))) (c .refused2 .ensures)
 
 returns-3 : tie.Need-returns-3
 unfolding reading firstFound

@@ -26,7 +26,7 @@ turn c = c .before .before .before
 here : (c : tie.After-kind Inv-loop μ-loop)
     → readAt (now (turn c .before .before .args .s)) (turn c .loop .at)
     ≡ found.Record (c .kind .given .0 .0) (c .kind .given .0 .1 .0) (c .kind .given .0 .1 .1 .0) (c .kind .given .0 .1 .1 .1 .0)
-here c = said (c .before .before .read .ensures) (c .kind .given .1)
+here c = said (c .before .before .read .ensures .whole) (c .kind .given .1)
 
 loop-holds : tie.Need-loop-holds Inv-loop μ-loop
 loop-holds c = begin _ _ _ (c .before .pre)
@@ -41,7 +41,7 @@ accepted-requires : tie.Need-accepted-requires Inv-loop μ-loop
 accepted-requires c κs = search needs
 
 returns : tie.Need-returns Inv-loop μ-loop
-returns c = c .accepted .ensures ∙ ended (c .before .before .before .before .loop .inv) (said (c .before .before .before .read .ensures) (c .before .enum-told .given .1))
+returns c = c .accepted .ensures ∙ ended (c .before .before .before .before .loop .inv) (said (c .before .before .before .read .ensures .whole) (c .before .enum-told .given .1))
 
 enum-told-2 : tie.Need-enum-told-2 Inv-loop μ-loop
 enum-told-2 c = search needs
@@ -50,7 +50,7 @@ refused-requires : tie.Need-refused-requires Inv-loop μ-loop
 refused-requires c κs = search needs
 
 returns-2 : tie.Need-returns-2 Inv-loop μ-loop
-returns-2 c = c .refused .ensures ∙ cut (c .before .before .before .before .loop .inv) (said (c .before .before .before .read .ensures) (c .before .enum-told2 .given .1))
+returns-2 c = c .refused .ensures ∙ cut (c .before .before .before .before .loop .inv) (said (c .before .before .before .read .ensures .whole) (c .before .enum-told2 .given .1))
 
 enum-known-kind : tie.Need-enum-known-kind Inv-loop μ-loop
 enum-known-kind c = search needs

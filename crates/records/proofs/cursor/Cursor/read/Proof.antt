@@ -1,20 +1,20 @@
 -- `records::cursor::Cursor::read`: the tests in the definition's order. Assumes nothing.
 use Rattle.records.specs.Tests.{cases}
-use Rattle.records.specs.Cursor.{readAt}
+use Rattle.records.specs.Cursor.{readAt, finds}
 use borrow.Author.Needs.{needs}
 use Rattle.records.proofs.cursor.Cursor.read.Statement.{statement}
 use Rattle.records.proofs.cursor.Cursor.read.Tie as tie
 
 returns : tie.Need-returns
 unfolding readAt
-returns c = search cases
+returns c = finds (search cases)
 
 sub-if2 : tie.Need-sub-if2
 sub-if2 c = search needs
 
 returns-2 : tie.Need-returns-2
 unfolding readAt
-returns-2 c = search cases
+returns-2 c = finds (search cases)
 
 u16-at-requires : tie.Need-u16-at-requires
 u16-at-requires c κs = search needs
@@ -30,7 +30,7 @@ sub-if3 c = search needs
 
 returns-3 : tie.Need-returns-3
 unfolding readAt
-returns-3 c = search (cases, ← c .before .u16-at .ensures)
+returns-3 c = finds (search (cases, ← c .before .u16-at .ensures))
 
 add-u16-at : tie.Need-add-u16-at
 add-u16-at c = search needs
@@ -43,7 +43,7 @@ add-t8 c = search needs
 
 returns-4 : tie.Need-returns-4
 unfolding readAt
-returns-4 c = search (cases, ← c .before .before .u16-at .ensures, ← c .u16-at2 .ensures)
+returns-4 c = finds (search (cases, ← c .before .before .u16-at .ensures, ← c .u16-at2 .ensures))
 
 pub read-spec : {M : Type 1} → statement M
 read-spec =

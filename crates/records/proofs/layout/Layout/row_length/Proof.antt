@@ -2,13 +2,14 @@
 use native.Mathlib.Omega.{arith}
 use Prim.Native.Nat.{_^_, _≤_}
 use lib.Pow.{pow-mono}
+use Rattle.records.specs.Limits.{maxInputs}
 use Rattle.records.specs.Layout.{rowLength}
 use borrow.Author.Needs.{needs}
 use Rattle.records.proofs.layout.Layout.row_length.Statement.{statement}
 use Rattle.records.proofs.layout.Layout.row_length.Tie as tie
 
 entries : (c : tie.After-pow2) → 2 ^ c .before .args .self .inputs ≤ 16
-entries c = pow-mono {j = 4} (omega arith)
+entries c = pow-mono {j = maxInputs} (omega arith)
 
 pow2-requires : tie.Need-pow2-requires
 pow2-requires c κs = search needs
