@@ -1,6 +1,6 @@
 -- What a step earns: its parts, and how much at most.
 -- Assumes nothing.
-use mathlib.Core.Path.{_≡_, refl, sym, ap, _∙_}
+use mathlib.Core.Path.{_≡_, refl}
 use mathlib.Core.Bool.{Bool, true, false, cond, _&&_}
 use mathlib.Core.List.{List}
 use Prim.Native.Nat.{ℕ, _+_, _*_, _≤_, _<_}
@@ -8,9 +8,9 @@ use native.Mathlib.Nat.{mul-le-mul, mul-le-mul-right}
 use native.Mathlib.Omega.{arith}
 use lib.Dec.{eqb}
 use lib.ListN.{length, getD}
-use Rattle.records.specs.Bounded.{count, count-le, sum, sum-most}
+use Rattle.records.specs.Bounded.{count, count-le, sum-most}
 use Rattle.sheet.specs.Decoded.{Decoded, monitorOf, SheetOk}
-use Rattle.product.specs.Step.{accepts, moved, advance, proposal, equalLines, softReward, rewardBy, weightOf, reward}
+use Rattle.product.specs.Step.{accepts, advance, proposal, equalLines, softReward, rewardBy, weightOf, reward}
 use Rattle.product.specs.Stages.{sameLine, matchReward}
 
 module _ (d : Decoded) where

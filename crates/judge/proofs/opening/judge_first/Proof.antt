@@ -66,7 +66,7 @@ solution : (c : tie.After-known-told2) →
     let found = c .before .states .given .0 in
     let after = solved c .solve .last .1 .1 in
     Solution (decoded (start at .args .s .now) (at .read .result .sheet)) (found .0) (found .1 .0) (found .1 .1 .0) (after .0) (after .1 .0) (after .1 .1 .0)
-solution c = subst (Says (solved c)) (c .before .states .given .1) (solved c .solve .ensures)
+solution c = subst (Says (solved c)) (c .before .states .given .1) (solved c .solve .ensures .0)
 
 read-requires : tie.Need-read-requires
 read-requires c κs = tt
@@ -118,7 +118,7 @@ same-length-6 c = many c .solve .kept .1 .1 .1 .1 .0
 
 returns-4 : tie.Need-returns-4
 returns-4 c = λ before.
-    answers (accepted (many c)) (judges-many guardTableOf statesOf _ before (subst (Says (many c)) (c .enum-told2 .given .1) (many c .solve .ensures)))
+    answers (accepted (many c)) (judges-many guardTableOf statesOf _ before (subst (Says (many c)) (c .enum-told2 .given .1) (many c .solve .ensures .0)))
 
 same-length-7 : tie.Need-same-length-7
 same-length-7 c = solved (c .before) .solve .kept .1 .1 .0

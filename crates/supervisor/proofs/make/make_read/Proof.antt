@@ -58,7 +58,7 @@ solution : (c : tie.After-known-told) →
     let found = c .before .states .given .0 in
     let after = solved c .solve .last .1 .1 in
     Solution (sheetOf (start c)) (found .0) (found .1 .0) (found .1 .1 .0) (after .0) (after .1 .0) (after .1 .1 .0)
-solution c = subst (Says (solved c)) (c .before .states .given .1) (solved c .solve .ensures)
+solution c = subst (Says (solved c)) (c .before .states .given .1) (solved c .solve .ensures .0)
 
 solve-requires : tie.Need-solve-requires
 solve-requires c κs = search needs
@@ -136,7 +136,7 @@ same-length-9 c = search needs
 
 returns-3 : tie.Need-returns-3
 returns-3 c = let a = c .before .before .before .before .before .before .before .before in
-    judges-many supervisorTable stateCount (sheetOf (entry a)) (entry a .args .result .now) (subst (Says a) (c .enum-told .given .1) (a .solve .ensures))
+    judges-many supervisorTable stateCount (sheetOf (entry a)) (entry a .args .result .now) (subst (Says a) (c .enum-told .given .1) (a .solve .ensures .0))
 
 same-length-10 : tie.Need-same-length-10
 same-length-10 c = search needs
