@@ -1,6 +1,8 @@
 -- `report::Report::too_long`: 9, then the line. Assumes nothing.
 use mathlib.Core.Path.{refl}
 use native.Mathlib.Omega.{arith}
+use Rattle.text.specs.Listing.{tooLongText}
+use Rattle.text.specs.Pieces.{put-as}
 use Rattle.report.specs.Laws.{writes-text, writes-short}
 use borrow.Author.Needs.{needs}
 use Rattle.report.proofs.Report.too_long.Statement.{statement}
@@ -16,7 +18,7 @@ same-length : tie.Need-same-length
 same-length c = search needs
 
 returns-2 : tie.Need-returns-2
-returns-2 c = writes-text refl (c .before .before .put-word .ensures) (omega arith)
+returns-2 c = writes-text refl (put-as {ys = tooLongText} (c .before .before .put-word .ensures) refl) (omega arith)
 
 pub too-long-spec : {M : Type 1} → statement M
 too-long-spec = tie.close (tie.spec returns put-word-requires same-length returns-2)

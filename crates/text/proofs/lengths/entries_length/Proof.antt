@@ -1,13 +1,13 @@
 -- `text::lengths::entries_length`: the lengths of the entries of the inputs before i are added up. Assumes nothing.
 use mathlib.Core.Path.{_≡_, sym, ap, _∙_}
 use mathlib.Core.List.{List}
-use Prim.Native.Nat.{ℕ, _-_, _*_, _^_, _≤_, _<_}
+use Prim.Native.Nat.{ℕ, _-_, _*_, _^_, _≤_}
 use native.Mathlib.Omega.{arith}
 use lib.ListN.{length}
 use lib.Pow.{pow-mono}
 use borrow.Author.Needs.{needs}
 use Rattle.records.specs.Lists.{cat}
-use Rattle.text.specs.Listing.{entryText, entryOf}
+use Rattle.text.specs.Listing.{entryOf}
 use Rattle.text.specs.Pieces.{entry-found}
 use Rattle.text.specs.Lengths.{length-none, length-more}
 use Rattle.text.proofs.lengths.entries_length.Statement.{statement}
