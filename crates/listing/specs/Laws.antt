@@ -47,8 +47,8 @@ use Rattle.plan.specs.Solved.{sheet-horizon}
 use Rattle.guard.specs.Running.{table-loads}
 use Rattle.judge.specs.Judged.{length-guard}
 use Rattle.text.specs.Listing.{listing, listingOf, tooLongText}
-use Rattle.report.specs.Promises.{Writes, textLength, lineLength, outcomeNumber, outcomeText, listedLength}
-use Rattle.report.specs.Laws.{room-enough, list-number, listing-made}
+use Rattle.report.specs.Promises.{Writes, textLength, outcomeDue, outcomeText, listedLength}
+use Rattle.report.specs.Laws.{writes-fits, outcome-most, listing-made}
 use Rattle.report.specs.declared.Listed.{Listed}
 use Rattle.listing.specs.Printed.{sheetMost, tableMost, solveNumber, sheetGround, guardText, printed, Prints}
 
@@ -129,15 +129,15 @@ front before table h = rw (sets-front before table h) (take-append-seam table _)
 some-ground : (g : Refusal) → eqb (groundNumber g) 0 ≡ false
 some-ground g = ne-eqb (groundNumber g) 0 (λ z. omega (arith, some-number g .1))
 
--- the number is none, and the text the one that is printed
-pub record Tells (s : List ℕ) (room number : ℕ) (words : List ℕ) : Type 0 where
-  pub number-is : textLength ≤ room → number ≡ 0
+-- a text is due, and it is the one that is printed
+pub record Tells (s : List ℕ) (due : Bool) (words : List ℕ) : Type 0 where
+  pub due-is : due ≡ true
   pub words-are : words ≡ guardText s
 
 pub outcome-tells : (s : List ℕ) → Bytes s → (before : List ℕ) → length before ≡ tableMost → (r : Made) {after : List ℕ}
-    → Answers guardTableOf guardStates true s before r after → (room : ℕ) → Tells s room (outcomeNumber r after room) (outcomeText r after)
-unfolding outcomeNumber outcomeText guardText
-outcome-tells s bytes before size (Table count states) {after} answers room =
+    → Answers guardTableOf guardStates true s before r after → Tells s (outcomeDue r after) (outcomeText r after)
+unfolding outcomeDue outcomeText guardText
+outcome-tells s bytes before size (Table count states) {after} answers =
     let d = sheetOf s in
     let none : sheetGround s ≡ 0 = sym (making-as s bytes) ∙ ap (makingNumber guardTableOf true s) (sym size) ∙ sym (answers .number) in
     let a = accepted s none in
@@ -147,27 +147,24 @@ outcome-tells s bytes before size (Table count states) {after} answers room =
     let inside : count ≤ length after =
     omega (arith, answers .size, ap length (answers .bytes) ∙ length-sets before 0 (guardTableOf d)) in
     record {
-      number-is = λ h. rw (le-leb count (length after) inside, table)
-          (list-number (guardTableOf d) room (loads s bytes (a .0) (a .1) (a .2)) ∙ room-enough textLength room h);
+      due-is = rw (le-leb count (length after) inside, table) (loads s bytes (a .0) (a .1) (a .2));
       words-are = rw (table, none);
     }
-outcome-tells s bytes before size (Refused ground) {after} answers room =
+outcome-tells s bytes before size (Refused ground) {after} answers =
     let same : groundNumber ground ≡ sheetGround s =
     answers .number ∙ ap (makingNumber guardTableOf true s) size ∙ making-as s bytes in
-    record {
-      number-is = λ h. room-enough lineLength room (omega arith);
-      words-are = rw (← same, some-ground ground);
-    }
+    record { due-is = refl; words-are = rw (← same, some-ground ground) }
 
 -- ---- what is left of it in the text memory
 
--- a text that was written, by its length
-pub writes-prints : {number r : ℕ} {words text before : List ℕ} {x : Listed} {after : List ℕ} → Writes number words before x after
-    → number ≡ 0 → words ≡ text → r ≡ listedLength x → Prints text before r after
-writes-prints {before = before} w e f g =
+-- a text that is due and fits, by its length
+pub writes-prints : {due : Bool} {r : ℕ} {words text before : List ℕ} {x : Listed} {after : List ℕ} → Writes due words before x after
+    → due ≡ true → length words ≤ length before → words ≡ text → r ≡ listedLength x → Prints text before r after
+writes-prints {before = before} w e h f g =
+    let none = writes-fits w e h in
     record {
-      size = g ∙ w .size ∙ rw e (ap length f);
-      bytes = w .bytes ∙ rw e (ap (λ (l : List ℕ). sets before 0 l) f);
+      size = g ∙ w .size ∙ rw none (ap length f);
+      bytes = w .bytes ∙ rw none (ap (λ (l : List ℕ). sets before 0 l) f);
       inside = omega (arith, w .inside);
     }
 
@@ -191,12 +188,12 @@ work-enough w h =
 -- what the maker answered, told in enough text memory
 pub outcome-prints : {s before : List ℕ} {w : Work} {made : Made} {after : List ℕ} → MakesGuard s before w made after → Bytes s
     → length before ≡ tableMost → Long w → {memory : List ℕ} {x : Listed} {now : List ℕ} → textLength ≤ length memory
-    → Writes (outcomeNumber made after (length memory)) (outcomeText made after) memory x now → {r : ℕ} → r ≡ listedLength x
+    → Writes (outcomeDue made after) (outcomeText made after) memory x now → {r : ℕ} → r ≡ listedLength x
     → Prints (guardText s) memory r now
 outcome-prints {s} {before} {w} {made} {after} m bytes size long {memory} room writes e =
     let answers : Answers guardTableOf guardStates true s before made after = rw (work-enough w long) at (m .makes .answers) in
-    let told = outcome-tells s bytes before size made answers (length memory) in
-    writes-prints writes (told .number-is room) (told .words-are) e
+    let told = outcome-tells s bytes before size made answers in
+    writes-prints writes (told .due-is) (omega (arith, outcome-most made after (told .due-is))) (told .words-are) e
 
 -- by the test of the length
 pub prints-guard : (s : List ℕ) {before : List ℕ} {r : ℕ} {after : List ℕ} → length s ≤ sheetMost → Prints (guardText s) before r after

@@ -1,10 +1,10 @@
 -- What the writers of text promise. `before` and `after` are the text memory.
 -- Assumes nothing.
 use mathlib.Core.Path.{_≡_}
-use mathlib.Core.Bool.{cond}
+use mathlib.Core.Bool.{Bool, true, cond, _&&_}
 use mathlib.Core.List.{List}
 use Prim.Native.Nat.{ℕ, _≤_}
-use lib.Dec.{leb, eqb}
+use lib.Dec.{ltb, leb, eqb}
 use lib.ListN.{length, take}
 use lib.Seq.{sets}
 use Rattle.tables.specs.Loadable.{loadable}
@@ -27,36 +27,30 @@ listedLength (Text size) = size
 listedLength NoTable = 0
 listedLength ShortText = 0
 
--- the text, then the old rest; on a refusal the old bytes
-pub record Writes (number : ℕ) (words before : List ℕ) (r : Listed) (after : List ℕ) : Type 0 where
-  pub number-is : listedNumber r ≡ number
-  pub size : listedLength r ≡ cond (eqb number 0) (length words) 0
-  pub bytes : after ≡ cond (eqb number 0) (sets before 0 words) before
+-- ---- what a writer does
+
+-- the number for a text in memory of `room` bytes: 11 where no text is due, else 9 exactly if the text is longer
+unfoldable pub textNumber : Bool → List ℕ → ℕ → ℕ
+textNumber due words room = cond due (cond (ltb room (length words)) 9 0) 11
+
+-- the number; then the text and the old rest, or on a refusal the old bytes
+pub record Writes (due : Bool) (words before : List ℕ) (r : Listed) (after : List ℕ) : Type 0 where
+  pub number-is : listedNumber r ≡ textNumber due words (length before)
+  pub size : listedLength r ≡ cond (eqb (listedNumber r) 0) (length words) 0
+  pub bytes : after ≡ cond (eqb (listedNumber r) 0) (sets before 0 words) before
   -- and the whole text is there
   pub inside : listedLength r ≤ length after
 
--- ---- the public calls
-
--- no listing of a table is longer
+-- no text is longer
 abbrev pub textLength : ℕ
 textLength = 25_897
 
--- no line that stands for a refusal is longer
-abbrev pub lineLength : ℕ
-lineLength = 12
+-- ---- what is told of a maker's answer, whose table, if it made one, is at the start of `result`
 
--- the number that is due for text memory of `room` bytes of which `least` are asked for
-unfoldable pub roomNumber : ℕ → ℕ → ℕ
-roomNumber least room = cond (leb least room) 0 9
-
--- for a listing: 11, then 9
-unfoldable pub listNumber : List ℕ → ℕ → ℕ
-listNumber t room = cond (loadable t) (roomNumber textLength room) 11
-
--- for what a maker answered, whose table, if it made one, is at the start of `result`
-unfoldable pub outcomeNumber : Made → List ℕ → ℕ → ℕ
-outcomeNumber (Table size states) result room = cond (leb size (length result)) (listNumber (take size result) room) 11
-outcomeNumber (Refused ground) result room = roomNumber lineLength room
+-- a listing is due of a table to load, a line of every refusal
+unfoldable pub outcomeDue : Made → List ℕ → Bool
+outcomeDue (Table size states) result = leb size (length result) && loadable (take size result)
+outcomeDue (Refused ground) result = true
 
 unfoldable pub outcomeText : Made → List ℕ → List ℕ
 outcomeText (Table size states) result = listingOf (take size result)

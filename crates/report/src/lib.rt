@@ -1,13 +1,16 @@
 // The listing of a guard table, and what is said where there is none, as text.
 use supervisor::make::Made;
 use tables::is_loadable;
+use text::lengths::listing_length;
+use text::lengths::number_length;
 use text::put_byte;
 use text::put_labelled;
 use text::put_listing;
 use text::put_word;
-ghost use lib.ListN.{length};
+ghost use mathlib.Core.Bool.{true};
+ghost use Rattle.tables.specs.Loadable.{loadable};
 ghost use Rattle.text.specs.Listing.{listingOf, refusedText, tooLongText};
-ghost use Rattle.report.specs.Promises.{lineLength, roomNumber, listNumber, outcomeNumber, outcomeText, Writes};
+ghost use Rattle.report.specs.Promises.{outcomeDue, outcomeText, Writes};
 
 // What a writer of text answers: the bytes of its text, or why it wrote none.
 pub enum Listed {
@@ -16,26 +19,23 @@ pub enum Listed {
     ShortText,
 }
 
-// The writer: the text memory that it needs.
+// The writers of text. Each knows the length of its text before it writes any.
 pub struct Report {
     pub listed: Listed,
 }
 
 impl Report {
-    // For a listing.
+    // No text is longer.
     pub const TEXT: usize = 25_897;
-
-    // For what is said where there is none.
-    pub const LINE: usize = 12;
 
     // The listing of a table, at the start of the text memory.
     pub fn list(table: &[u8], text: &mut [u8]) -> Listed
-        ensures { λ r. ⌜ Writes (listNumber (now (table .entry)) (length (now (text .entry)))) (listingOf (now (table .entry))) (now (text .entry)) r (now (text .exit)) ⌝ }
+        ensures { λ r. ⌜ Writes (loadable (now (table .entry))) (listingOf (now (table .entry))) (now (text .entry)) r (now (text .exit)) ⌝ }
     {
         if !is_loadable(table) {
             return Listed::NoTable;
         }
-        if text.len() < Report::TEXT {
+        if text.len() < listing_length(table) {
             return Listed::ShortText;
         }
         let size = put_listing(text, table);
@@ -44,9 +44,9 @@ impl Report {
 
     // The line of a refusal.
     pub fn refused(number: u8, text: &mut [u8]) -> Listed
-        ensures { λ r. ⌜ Writes (roomNumber lineLength (length (now (text .entry)))) (refusedText number) (now (text .entry)) r (now (text .exit)) ⌝ }
+        ensures { λ r. ⌜ Writes true (refusedText number) (now (text .entry)) r (now (text .exit)) ⌝ }
     {
-        if text.len() < Report::LINE {
+        if text.len() < 9 + number_length(number as usize) {
             return Listed::ShortText;
         }
         let end = put_labelled(text, 0, b"refused ", number as usize);
@@ -56,18 +56,19 @@ impl Report {
 
     // The line of a sheet that is too long to be read.
     pub fn too_long(text: &mut [u8]) -> Listed
-        ensures { λ r. ⌜ Writes (roomNumber lineLength (length (now (text .entry)))) tooLongText (now (text .entry)) r (now (text .exit)) ⌝ }
+        ensures { λ r. ⌜ Writes true tooLongText (now (text .entry)) r (now (text .exit)) ⌝ }
     {
-        if text.len() < Report::LINE {
+        let line = b"too long\n";
+        if text.len() < line.len() {
             return Listed::ShortText;
         }
-        let size = put_word(text, 0, b"too long\n");
+        let size = put_word(text, 0, line);
         Listed::Text(size)
     }
 
     // What a maker answered, whose table, if it made one, is at the start of `result`.
     pub fn outcome(made: Made, result: &[u8], text: &mut [u8]) -> Listed
-        ensures { λ r. ⌜ Writes (outcomeNumber made (now (result .entry)) (length (now (text .entry)))) (outcomeText made (now (result .entry))) (now (text .entry)) r (now (text .exit)) ⌝ }
+        ensures { λ r. ⌜ Writes (outcomeDue made (now (result .entry))) (outcomeText made (now (result .entry))) (now (text .entry)) r (now (text .exit)) ⌝ }
     {
         match made {
             Made::Table { length, states: _ } => {

@@ -6,7 +6,7 @@ use mathlib.Core.List.{List, [], _∷_, _++_}
 use Prim.Native.Nat.{ℕ, zero, suc, _+_, _/_, _%_, _≤_, _<_}
 use native.Mathlib.Decide.{decLt}
 use native.Mathlib.Omega.{arith}
-use lib.ListN.{length}
+use lib.ListN.{length, length-append}
 use borrow.Author.Tests.{lt-ltb, le-ltb}
 use Rattle.text.specs.Listing.{decimalFrom, decimal}
 
@@ -63,7 +63,10 @@ pub digits-three : (n : ℕ) → 100 ≤ n → n < 1000 → {a b c : ℕ} → a 
     → a ∷ b ∷ c ∷ [] ≡ decimal n
 digits-three n h l e f g = rw (decimal-three n h l, e, f, g)
 
--- how many there are
+-- how many there are: one, and one more for each division by ten
+pub digits-more : (n : ℕ) → 10 ≤ n → length (decimal n) ≡ length (decimal (n / 10)) + 1
+digits-more n h = ap length (decimal-more n h) ∙ length-append (decimal (n / 10)) ((48 + (n % 10)) ∷ [])
+
 pub one-digit : (n : ℕ) → n < 10 → length (decimal n) ≡ 1
 one-digit n h = rw (decimal-digit n h)
 

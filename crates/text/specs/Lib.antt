@@ -3,3 +3,4 @@ pub mod Listing
 pub mod Put
 pub mod Digits
 pub mod Pieces
+pub mod Lengths

@@ -8,7 +8,6 @@ use lib.ListN.{length, getD, set, length-append}
 use lib.Seq.{sets, length-sets}
 use Rattle.records.specs.Lists.{tab, length-tab, tab-self, cat, cat-none, cat-more, cat-at, sets-append, sets-more}
 use Rattle.records.specs.Numbers.{u16At}
-use Rattle.records.specs.Layout.{entryAt}
 use Rattle.text.specs.Listing.{headLine, entryText, listing, outputIn, nextIn, entryOf, rowOf, listingOf}
 use Rattle.text.specs.Put.{Put}
 
@@ -80,11 +79,11 @@ fits-next f k n h p room =
       length-append (f k) (r .0),
     )
 
--- the entry that was found where the layout puts it
-pub entry-found : (t : List ℕ) (inputs k i : ℕ) {at : ℕ} → at ≡ entryAt inputs k i
-    → entryText (getD t at 0) (getD t (at + 1) 0) ≡ entryOf t inputs k i
-unfolding entryOf outputIn nextIn
-entry-found t inputs k i e = rw e
+-- the entry that was found
+pub entry-found : (t : List ℕ) (inputs k i : ℕ) {out next : ℕ} → out ≡ outputIn t inputs k i → next ≡ nextIn t inputs k i
+    → entryText out next ≡ entryOf t inputs k i
+unfolding entryOf
+entry-found t inputs k i e f = rw (e, f)
 
 -- the listing of a table whose count was read: the first line, then the lines of the states
 pub listing-parts : (t : List ℕ) {count : ℕ} → count ≡ u16At t 8

@@ -1,4 +1,6 @@
 // The pieces of a listing. Each is put at a place of the text memory, and answers the place after it.
+pub mod lengths;
+
 use records::layout::Layout;
 use records::numbers::pow2;
 use records::numbers::u16_at;
@@ -8,7 +10,7 @@ ghost use Prim.Native.Nat.{_+_, _^_, _≤_, _<_};
 ghost use lib.ListN.{length, getD};
 ghost use Rattle.records.specs.Lists.{cat};
 ghost use Rattle.records.specs.Numbers.{u16At};
-ghost use Rattle.text.specs.Listing.{decimal, labelled, headLine, entryText, entryOf, rowOf, listingOf};
+ghost use Rattle.text.specs.Listing.{decimal, labelled, headLine, entryText, outputIn, nextIn, entryOf, rowOf, listingOf};
 ghost use Rattle.text.specs.Put.{Put, Filled};
 
 // One byte.
@@ -69,6 +71,25 @@ pub fn put_entry(text: &mut [u8], at: usize, output: u8, next: u8) -> usize
     put_number(text, target, next as usize)
 }
 
+// What a table says of a state and an input.
+pub struct Entry {
+    pub output: u8,
+    pub next: u8,
+}
+
+// The entry of a state and an input.
+pub fn entry_in(table: &[u8], inputs: u8, count: usize, k: usize, i: usize) -> Entry
+    requires { ⌜ Filled (now table) inputs count × ((k < count) × (i < 2 ^ inputs)) ⌝ }
+    ensures { λ r. ⌜ (r .output ≡ outputIn (now (table .entry)) inputs k i) × (r .next ≡ nextIn (now (table .entry)) inputs k i) ⌝ }
+{
+    let layout = Layout { inputs };
+    let at = layout.entry_at(k, i);
+    Entry {
+        output: table[at],
+        next: table[at + 1],
+    }
+}
+
 // The entries of a state, one for each input.
 pub fn put_entries(
     text: &mut [u8],
@@ -82,13 +103,12 @@ pub fn put_entries(
     requires { ⌜ at + length (cat (2 ^ inputs) (entryOf (now table) inputs k)) ≤ length (now text) ⌝ }
     ensures { λ r. ⌜ Put (now (text .entry)) at (cat (2 ^ inputs) (entryOf (now (table .entry)) inputs k)) r (now (text .exit)) ⌝ }
 {
-    let layout = Layout { inputs };
     let entries = pow2(inputs);
     let mut place = at;
     let mut i: usize = 0;
     while i < entries {
-        let entry = layout.entry_at(k, i);
-        place = put_entry(text, place, table[entry], table[entry + 1]);
+        let entry = entry_in(table, inputs, count, k, i);
+        place = put_entry(text, place, entry.output, entry.next);
         i += 1;
     }
     place

@@ -1,7 +1,6 @@
 -- `listing::print`: by the length of the sheet. Assumes nothing.
 use mathlib.Core.Path.{refl}
 use native.Mathlib.Omega.{arith}
-use Rattle.report.specs.Laws.{room-enough}
 use Rattle.listing.specs.Laws.{writes-prints, prints-guard, prints-long}
 use borrow.Author.Needs.{needs}
 use Rattle.listing.proofs.print.Statement.{statement}
@@ -17,7 +16,7 @@ same-length : tie.Need-same-length
 same-length c = search needs
 
 returns : tie.Need-returns
-returns c = prints-long _ (omega arith) (writes-prints (c .before .before .before .too-long .ensures) (room-enough _ _ (omega arith)) refl (c .written .ensures))
+returns c = prints-long _ (omega arith) (writes-prints (c .before .before .before .too-long .ensures) refl (omega arith) refl (c .written .ensures))
 
 print-guard-requires : tie.Need-print-guard-requires
 print-guard-requires c κs = search needs

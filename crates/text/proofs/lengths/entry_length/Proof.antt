@@ -1,0 +1,26 @@
+-- `text::lengths::entry_length`: a sum. Assumes nothing.
+use native.Mathlib.Omega.{arith}
+use borrow.Author.Needs.{needs}
+use Rattle.text.specs.Lengths.{length-entry}
+use Rattle.text.proofs.lengths.entry_length.Statement.{statement}
+use Rattle.text.proofs.lengths.entry_length.Tie as tie
+
+number-length-requires : tie.Need-number-length-requires
+number-length-requires c κs = search needs
+
+add-result : tie.Need-add-result
+add-result c = search needs
+
+number-length-requires-2 : tie.Need-number-length-requires-2
+number-length-requires-2 c κs = search needs
+
+add-result-2 : tie.Need-add-result-2
+add-result-2 c = search needs
+
+returns : tie.Need-returns
+returns c = let s = c .before .before in omega (arith, length-entry (s .args .output) (s .args .next))
+
+pub entry-length-spec : {M : Type 1} → statement M
+entry-length-spec =
+    tie.close
+    (tie.spec number-length-requires add-result number-length-requires-2 add-result-2 returns)
