@@ -27,5 +27,3 @@ pub mod Answers
 pub mod Machine
 pub mod Simulation
 pub mod Guard
--- a shield, computed
-pub mod Example

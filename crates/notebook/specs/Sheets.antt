@@ -1,4 +1,4 @@
--- The sheets of document 01's notebook, as bytes. All but A's are the encodings of decoded sheets.
+-- The sheets of document 01's notebook and two more, as bytes. All but A's are the encodings of decoded sheets.
 -- Assumes nothing.
 use mathlib.Core.List.{List, [], _∷_}
 use Prim.Native.Nat.{ℕ}
@@ -37,6 +37,17 @@ badStart =
       start = 0;
       accept = 0 ∷ 1 ∷ [];
       rows = (1 ∷ 1 ∷ 1 ∷ 1 ∷ []) ∷ (1 ∷ 1 ∷ 1 ∷ 1 ∷ []) ∷ [];
+    }
+
+-- input without output, so on next; output without input, so off next
+abbrev pub settles : Automaton
+settles =
+    record {
+      role = 0;
+      weight = 0;
+      start = 0;
+      accept = 1 ∷ 1 ∷ 1 ∷ 0 ∷ [];
+      rows = (0 ∷ 1 ∷ 2 ∷ 0 ∷ []) ∷ (3 ∷ 3 ∷ 0 ∷ 0 ∷ []) ∷ (0 ∷ 0 ∷ 3 ∷ 3 ∷ []) ∷ (3 ∷ 3 ∷ 3 ∷ 3 ∷ []) ∷ [];
     }
 
 -- this weight for each letter that has a 1 in the list
@@ -84,6 +95,10 @@ sheet6 horizon =
 abbrev pub sheet9 : ℕ → ℕ → List ℕ
 sheet9 inputs horizon = encode (oneOutput inputs horizon [])
 
+-- three states, met by different letters
+abbrev pub letterSheet : List ℕ
+letterSheet = encode (oneOutput 1 0 (settles ∷ []))
+
 -- a hard monitor of one state where there is no input line; its weight is to be 0
 abbrev pub idle : ℕ → Automaton
 idle weight = record { role = 0; weight = weight; start = 0; accept = 1 ∷ []; rows = (0 ∷ 0 ∷ []) ∷ [] }
@@ -92,25 +107,48 @@ idle weight = record { role = 0; weight = weight; start = 0; accept = 1 ∷ []; 
 abbrev pub sheet10 : List Automaton → List ℕ
 sheet10 more = encode (oneOutput 0 0 (idle 0 ∷ idle 0 ∷ idle 0 ∷ idle 0 ∷ idle 0 ∷ idle 0 ∷ more))
 
--- ---- a shield with no site lines and one output: never on twice, match 1, H = 0
+-- ---- shields with one output, match 1, H = 0
 
+abbrev pub shield : ℕ → ℕ → List Automaton → Decoded
+shield site literal monitors =
+    record { mode = 1; site = site; outputs = 1; horizon = 0; matching = 1; literals = literal ∷ []; monitors = monitors }
+
+-- no site lines: never on twice
 abbrev pub sheet7 : List ℕ
 sheet7 =
     encode
+    (shield 0 0
     (record {
-      mode = 1;
-      site = 0;
-      outputs = 1;
-      horizon = 0;
-      matching = 1;
-      literals = 0 ∷ [];
-      monitors =
-          record {
-            role = 0;
-            weight = 0;
-            start = 0;
-            accept = 1 ∷ 1 ∷ 0 ∷ [];
-            rows = (0 ∷ 1 ∷ []) ∷ (0 ∷ 2 ∷ []) ∷ (2 ∷ 2 ∷ []) ∷ [];
-          }
-          ∷ [];
-    })
+      role = 0;
+      weight = 0;
+      start = 0;
+      accept = 1 ∷ 1 ∷ 0 ∷ [];
+      rows = (0 ∷ 1 ∷ []) ∷ (0 ∷ 2 ∷ []) ∷ (2 ∷ 2 ∷ []) ∷ [];
+    }
+    ∷ []))
+
+-- with one site line a letter is site + 2 × output: never on right after on with the site line on; after a break it begins anew
+abbrev pub notAgain : Automaton
+notAgain =
+    record {
+      role = 0;
+      weight = 0;
+      start = 0;
+      accept = 1 ∷ 1 ∷ 0 ∷ [];
+      rows = (0 ∷ 0 ∷ 1 ∷ 1 ∷ []) ∷ (0 ∷ 0 ∷ 1 ∷ 2 ∷ []) ∷ (0 ∷ 0 ∷ 0 ∷ 0 ∷ []) ∷ [];
+    }
+
+-- a sound proposal is left (letter 3) at the first step, or just after an unsound one was left (letter 2)
+abbrev pub seldomLeft : Automaton
+seldomLeft =
+    record {
+      role = 2;
+      weight = 0;
+      start = 1;
+      accept = 1 ∷ 1 ∷ 0 ∷ [];
+      rows = (0 ∷ 0 ∷ 1 ∷ 2 ∷ []) ∷ (0 ∷ 0 ∷ 1 ∷ 0 ∷ []) ∷ (2 ∷ 2 ∷ 2 ∷ 2 ∷ []) ∷ [];
+    }
+
+-- one site line, off preferred
+abbrev pub limitSheet : List ℕ
+limitSheet = encode (shield 1 8 (notAgain ∷ seldomLeft ∷ []))

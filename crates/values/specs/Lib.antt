@@ -8,4 +8,3 @@ pub mod Growth
 pub mod Leaders
 pub mod Numbered
 pub mod Choices
-pub mod Examples

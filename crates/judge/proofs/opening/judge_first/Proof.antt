@@ -4,12 +4,14 @@ use mathlib.Core.Bool.{Bool, true}
 use mathlib.Core.List.{List}
 use Prim.Native.Nat.{ℕ}
 use borrow.Author.Tests.{not-true, not-false}
+use Rattle.sheet.specs.declared.layout.Refusal.the-variants.{Unrealizable}
 use Rattle.sheet.specs.Layout.{verdictNumber}
 use Rattle.sheet.specs.Where.{Fits, decoded}
 use Rattle.supervisor.specs.Making.{Judges, Answers}
 use Rattle.supervisor.specs.Judging.{judges-many, answers-short, answers-refused, answers-judged}
 use Rattle.supervisor.specs.Solve.{Solution, Solves}
 use Rattle.supervisor.specs.declared.make.Made.{Made}
+use Rattle.supervisor.specs.declared.make.Made.the-variants as made
 use Rattle.supervisor.specs.declared.solve.Solved.{Solved}
 use Rattle.plan.specs.Table.{guardTableOf, statesOf}
 use Rattle.judge.specs.Judged.{solved-lost}
@@ -100,8 +102,12 @@ same-length-3 : tie.Need-same-length-3
 same-length-3 c = solved (c .before) .solve .kept .1 .1 .1 .1 .0
 
 returns-2 : tie.Need-returns-2
-returns-2 c = λ before.
-    answers (accepted (solved (c .before))) (solved-lost (solution (c .before)) before (not-true _ (c .if2 .taken)))
+returns-2 c =
+    let at = accepted (solved (c .before)) in
+    let a = start (read (long at)) .args in
+    let refused : (before : List ℕ) → Answers guardTableOf statesOf (a .ok) (a .s .now) before (made.Refused Unrealizable) before =
+    λ before. answers at (solved-lost (solution (c .before)) before (not-true _ (c .if2 .taken))) in
+    refused
 
 returns-3 : tie.Need-returns-3
 returns-3 c = let at = c .before .before .before in λ before.

@@ -107,39 +107,6 @@ clear16-requires-5 c κs = tt
 clear16-requires-6 : tie.Need-clear16-requires-6
 clear16-requires-6 c κs = tt
 
-same-length : tie.Need-same-length
-same-length c = made c .make-with .kept .1 .1 .0
-
-same-length-2 : tie.Need-same-length-2
-same-length-2 c = tuples c .clear8 .kept .0 ∙ made c .make-with .kept .1 .1 .1 .0
-
-same-length-3 : tie.Need-same-length-3
-same-length-3 c = cells c .clear16 .kept .0 ∙ made c .make-with .kept .1 .1 .1 .1 .0
-
-same-length-4 : tie.Need-same-length-4
-same-length-4 c = dropped c .clear162 .kept .0 ∙ made c .make-with .kept .1 .1 .1 .1 .1 .0
-
-same-length-5 : tie.Need-same-length-5
-same-length-5 c = gains c .clear163 .kept .0 ∙ made c .make-with .kept .1 .1 .1 .1 .1 .1 .0
-
-same-length-6 : tie.Need-same-length-6
-same-length-6 c = bonuses c .clear164 .kept .0 ∙ made c .make-with .kept .1 .1 .1 .1 .1 .1 .1 .0
-
-same-length-7 : tie.Need-same-length-7
-same-length-7 c = values c .clear64 .kept .0 ∙ made c .make-with .kept .1 .1 .1 .1 .1 .1 .1 .1 .0
-
-same-length-8 : tie.Need-same-length-8
-same-length-8 c = next c .clear642 .kept .0 ∙ made c .make-with .kept .1 .1 .1 .1 .1 .1 .1 .1 .1 .0
-
-same-length-9 : tie.Need-same-length-9
-same-length-9 c = choices c .clear82 .kept .0 ∙ made c .make-with .kept .1 .1 .1 .1 .1 .1 .1 .1 .1 .1 .0
-
-same-length-10 : tie.Need-same-length-10
-same-length-10 c = order c .clear165 .kept .0 ∙ made c .make-with .kept .1 .1 .1 .1 .1 .1 .1 .1 .1 .1 .1 .0
-
-same-length-11 : tie.Need-same-length-11
-same-length-11 c = numbers c .clear166 .kept .0 ∙ made c .make-with .kept .1 .1 .1 .1 .1 .1 .1 .1 .1 .1 .1 .1 .0
-
 returns : tie.Need-returns
 returns c = (
   promise (made c),
@@ -172,6 +139,39 @@ returns c = (
     ),
   ),
 )
+
+same-length : tie.Need-same-length
+same-length c = made c .make-with .kept .1 .1 .0
+
+same-length-2 : tie.Need-same-length-2
+same-length-2 c = tuples c .clear8 .kept .0 ∙ made c .make-with .kept .1 .1 .1 .0
+
+same-length-3 : tie.Need-same-length-3
+same-length-3 c = cells c .clear16 .kept .0 ∙ made c .make-with .kept .1 .1 .1 .1 .0
+
+same-length-4 : tie.Need-same-length-4
+same-length-4 c = dropped c .clear162 .kept .0 ∙ made c .make-with .kept .1 .1 .1 .1 .1 .0
+
+same-length-5 : tie.Need-same-length-5
+same-length-5 c = gains c .clear163 .kept .0 ∙ made c .make-with .kept .1 .1 .1 .1 .1 .1 .0
+
+same-length-6 : tie.Need-same-length-6
+same-length-6 c = bonuses c .clear164 .kept .0 ∙ made c .make-with .kept .1 .1 .1 .1 .1 .1 .1 .0
+
+same-length-7 : tie.Need-same-length-7
+same-length-7 c = values c .clear64 .kept .0 ∙ made c .make-with .kept .1 .1 .1 .1 .1 .1 .1 .1 .0
+
+same-length-8 : tie.Need-same-length-8
+same-length-8 c = next c .clear642 .kept .0 ∙ made c .make-with .kept .1 .1 .1 .1 .1 .1 .1 .1 .1 .0
+
+same-length-9 : tie.Need-same-length-9
+same-length-9 c = choices c .clear82 .kept .0 ∙ made c .make-with .kept .1 .1 .1 .1 .1 .1 .1 .1 .1 .1 .0
+
+same-length-10 : tie.Need-same-length-10
+same-length-10 c = order c .clear165 .kept .0 ∙ made c .make-with .kept .1 .1 .1 .1 .1 .1 .1 .1 .1 .1 .1 .0
+
+same-length-11 : tie.Need-same-length-11
+same-length-11 c = numbers c .clear166 .kept .0 ∙ made c .make-with .kept .1 .1 .1 .1 .1 .1 .1 .1 .1 .1 .1 .1 .0
 
 pub make-spec : {M : Type 1} → statement M
 make-spec =
