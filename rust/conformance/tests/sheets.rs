@@ -6,7 +6,7 @@ use std::collections::BTreeMap;
 use conformance::{cases, generate, seed, subject, Random};
 use guard::{calls, Work};
 
-const WORK_SHORT: u32 = 10;
+const SHORT_WORK: u32 = reference::Refusal::ShortWork.number();
 
 /// Bytes on either side of the result memory that is lent.
 const MARGIN: usize = 32;
@@ -127,7 +127,7 @@ fn compare(kind: Kind, sheet: &[u8], random: &mut Random) -> u32 {
     }
     let before = work.clone();
     let answer = match short {
-        true => (WORK_SHORT, [0; calls::FIGURES]),
+        true => (SHORT_WORK, [0; calls::FIGURES]),
         false => kind.by_reference(sheet, &mut expected[lent.clone()]),
     };
     let read = sheet.to_vec();
@@ -173,7 +173,7 @@ fn each_work_slice_has_its_own_bound() {
                 let (number, figures) = kind.by_library(sheet, &mut result, &mut work);
                 let mut expected = vec![0xA5; 64];
                 let answer = match slice < kind.slices() {
-                    true => (WORK_SHORT, [0; 2]),
+                    true => (SHORT_WORK, [0; 2]),
                     false => kind.by_reference(sheet, &mut expected),
                 };
                 assert_eq!((number, figures), answer, "{kind:?}, slice {slice}");
