@@ -395,8 +395,7 @@ mod tests {
             // Kinds, levels and calls that are not known, and not known to be a later level's.
             format!("Z {LEVEL} 00"),
             format!("s {LEVEL} - 2 - -"),
-            format!("C {LEVEL} - 2 0"),
-            format!("O {LEVEL} {EMPTY} mark 7 20 {EMPTY}"),
+            format!("O {LEVEL} {EMPTY} leap 7 20 {EMPTY}"),
             "W".to_string(),
             "S".to_string(),
             "S x - 2 - -".to_string(),
@@ -409,7 +408,7 @@ mod tests {
             format!("S {LEVEL} 0x 2 - -"),
             format!("S {LEVEL} - 2 - - -"),
             format!("O {LEVEL} 0,0,0,0 unload 7 20 {EMPTY}"),
-            format!("O {LEVEL} {EMPTY} unload 7 20 {EMPTY};1,0,0,0"),
+            format!("O {LEVEL} {EMPTY} unload 7 20 {EMPTY},0"),
             format!("B {LEVEL} {EMPTY} - 256 20 {EMPTY} 0"),
             format!("Q {LEVEL} - 0 0 {EMPTY}"),
             format!("R {LEVEL} {A} 18446744073709551615 0 46"),
