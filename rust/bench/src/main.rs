@@ -196,9 +196,10 @@ fn stepping(
 
 fn main() {
     let quick = std::env::args().nth(1).is_some_and(|argument| argument == "quick");
-    let effort = match quick {
-        true => Effort { sample: Duration::from_micros(300), samples: 20 },
-        false => Effort { sample: Duration::from_micros(600), samples: 150 },
+    let effort = if quick {
+        Effort { sample: Duration::from_micros(300), samples: 20 }
+    } else {
+        Effort { sample: Duration::from_micros(600), samples: 150 }
     };
     if !guard::LINKED {
         println!("built without the library (rt staticlib ffi): the reference alone\n");
@@ -221,9 +222,14 @@ fn main() {
     }
     println!();
     boards(effort);
+    println!();
+    growth(effort);
+}
 
+/// How the time of a guard grows with the number of states.
+fn growth(effort: Effort) {
     println!(
-        "\nguard by number of states (two counters, 4 lines in, 2 out, H = 6), and the power of"
+        "guard by number of states (two counters, 4 lines in, 2 out, H = 6), and the power of"
     );
     println!("the number of states that the time grows by from one row to the next");
     println!(

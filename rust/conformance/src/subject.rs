@@ -1,7 +1,7 @@
 //! Who answers: the reference or the library, behind the same calls.
 
 use std::io::Write;
-use std::path::PathBuf;
+use std::path::{Path, PathBuf};
 use std::process::{Command, Stdio};
 
 use guard::{calls, Work};
@@ -165,7 +165,7 @@ impl Subject for Library {
 }
 
 /// What the listing program writes for a sheet.
-fn listing_of(program: &PathBuf, sheet: &[u8]) -> String {
+fn listing_of(program: &Path, sheet: &[u8]) -> String {
     let mut child = Command::new(program)
         .stdin(Stdio::piped())
         .stdout(Stdio::piped())

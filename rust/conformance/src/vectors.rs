@@ -1,16 +1,42 @@
 //! Files of expected answers (the format is in `vectors/README.md`).
 
+use std::cmp::Ordering;
 use std::fmt;
+use std::str::FromStr;
 
 use reference::Board;
 
 use crate::Subject;
 
-/// The level of the answers that are known here.
-const LEVEL: &str = "0";
+/// The present level: the base is 0, level k knows the change requests N1 to Nk.
+pub const LEVEL: u32 = 0;
+
+/// Every kind of line that the present level has, by its letter. The next level raises [`LEVEL`],
+/// adds its kinds here, and to [`Subject`] the calls that they compare.
+const KINDS: &[(&str, Comparison)] = &[
+    ("S", tables),
+    ("R", room),
+    (LISTING, listing),
+    ("D", load),
+    ("B", step),
+    ("O", change),
+    ("Q", steps),
+];
+
+/// The one kind of line that names no level: it is of its file's.
+const LISTING: &str = "L";
+
+/// Reads the fields of a line, all of them before the first call, and compares the answers.
+type Comparison = fn(&mut Fields, &mut dyn Subject) -> Compared;
+
+/// Nothing, or how the answers differ or why the line cannot be run.
+type Compared = Result<(), String>;
+
 /// Result memory beyond the table, and what it is filled with before a call.
 const BEYOND: usize = 16;
 const FILL: u8 = 0xA5;
+/// The most result memory that a line may ask for.
+const ROOM_MOST: usize = 1 << 20;
 
 /// How many lines agree, differ, and were passed over.
 #[derive(Clone, Copy, Debug, Default, PartialEq, Eq)]
@@ -29,16 +55,23 @@ impl fmt::Display for Tally {
 /// What came of a line.
 #[derive(Clone, Debug, PartialEq, Eq)]
 pub enum Outcome {
+    /// The answers are those of the line.
     Agrees,
+    /// They are not, or the line is one that cannot be run.
     Differs(String),
+    /// The line is of a later level.
     PassedOver,
 }
 
 /// Compares every line of the text; `report` is told each that differs, with its number.
 pub fn run(text: &str, subject: &mut dyn Subject, report: &mut dyn FnMut(usize, &str)) -> Tally {
+    let lines = || text.lines().enumerate().filter(|(_, line)| !line.trim().is_empty());
+    // The file's level is the lowest that a line of it names.
+    let named = lines().filter_map(|(_, line)| begin(line).ok()?.level);
+    let level = named.min().unwrap_or(LEVEL);
     let mut tally = Tally::default();
-    for (index, line) in text.lines().enumerate().filter(|(_, line)| !line.trim().is_empty()) {
-        match compare(line, subject) {
+    for (index, line) in lines() {
+        match compare(line, level, subject) {
             Outcome::Agrees => tally.agree += 1,
             Outcome::PassedOver => tally.passed_over += 1,
             Outcome::Differs(how) => {
@@ -50,66 +83,107 @@ pub fn run(text: &str, subject: &mut dyn Subject, report: &mut dyn FnMut(usize, 
     tally
 }
 
-/// Compares one line.
-pub fn compare(line: &str, subject: &mut dyn Subject) -> Outcome {
-    let line = line.trim_end_matches('\r');
-    let (letter, rest) = line.split_once(' ').unwrap_or((line, ""));
-    if letter == "L" {
-        return finish(listing(rest, subject));
+/// Compares one line of a file of the level.
+pub fn compare(line: &str, level: u32, subject: &mut dyn Subject) -> Outcome {
+    try_compare(line, level, subject).unwrap_or_else(Outcome::Differs)
+}
+
+fn try_compare(line: &str, level: u32, subject: &mut dyn Subject) -> Result<Outcome, String> {
+    let Begun { letter, level: named, mut fields } = begin(line)?;
+    let level = named.unwrap_or(level);
+    match level.cmp(&LEVEL) {
+        Ordering::Greater => return Ok(Outcome::PassedOver),
+        Ordering::Less => return Err(format!("of level {level}, and the present one is {LEVEL}")),
+        Ordering::Equal => {}
     }
-    let mut fields = rest.split_ascii_whitespace();
-    if fields.next() != Some(LEVEL) {
-        return Outcome::PassedOver;
-    }
-    let fields: Vec<&str> = fields.collect();
-    let compared = match (letter, fields.as_slice()) {
-        ("S", &[sheet, no, supervisor, guard]) => tables(sheet, no, supervisor, guard, subject),
-        ("R", &[sheet, room, no, length]) => room_for(sheet, room, no, length, subject),
-        ("D", &[table, no]) => load(table, no, subject),
-        ("B", &[board, table, input, no, after, output]) => {
-            step(board, table, input, [no, after, output], subject)
-        }
-        ("O", &[_, "mark" | "recall", ..]) => return Outcome::PassedOver,
-        ("O", &[board, call, _name, no, after]) => other(board, call, no, after, subject),
-        ("Q", &[table, inputs, answers, after]) => run_of(table, inputs, answers, after, subject),
-        ("S" | "R" | "D" | "B" | "O" | "Q", _) => Err("not the fields of such a line".to_string()),
-        _ => return Outcome::PassedOver,
+    let (_, compared) = KINDS
+        .iter()
+        .find(|(known, _)| *known == letter)
+        .ok_or_else(|| format!("level {LEVEL} has no kind of line {letter}"))?;
+    compared(&mut fields, subject)?;
+    fields.end()?;
+    Ok(Outcome::Agrees)
+}
+
+/// A line of which letter and level are read.
+struct Begun<'a> {
+    letter: &'a str,
+    /// None where the line names none.
+    level: Option<u32>,
+    fields: Fields<'a>,
+}
+
+fn begin(line: &str) -> Result<Begun<'_>, String> {
+    let mut fields = Fields(line);
+    let letter = fields.next()?;
+    let level = match letter {
+        LISTING => None,
+        _ => Some(fields.number().map_err(|why| format!("no level after {letter}: {why}"))?),
     };
-    finish(compared)
+    Ok(Begun { letter, level, fields })
 }
 
-fn finish(compared: Result<(), String>) -> Outcome {
-    match compared {
-        Ok(()) => Outcome::Agrees,
-        Err(how) => Outcome::Differs(how),
+/// The fields of a line that are still to be read.
+struct Fields<'a>(&'a str);
+
+impl<'a> Fields<'a> {
+    fn next(&mut self) -> Result<&'a str, String> {
+        let rest = self.0.trim_start();
+        let (field, rest) = rest.split_once(' ').unwrap_or((rest, ""));
+        self.0 = rest;
+        if field.is_empty() {
+            return Err("a field is missing".to_string());
+        }
+        Ok(field)
+    }
+
+    fn number<T: FromStr>(&mut self) -> Result<T, String> {
+        number_of(self.next()?)
+    }
+
+    fn bytes(&mut self) -> Result<Vec<u8>, String> {
+        bytes_of(self.next()?)
+    }
+
+    fn board(&mut self) -> Result<Board, String> {
+        board_of(self.next()?)
+    }
+
+    /// A field of several parts, joined by commas.
+    fn list<T>(&mut self, part: impl Fn(&str) -> Result<T, String>) -> Result<Vec<T>, String> {
+        match self.next()? {
+            "-" => Ok(Vec::new()),
+            field => field.split(',').map(part).collect(),
+        }
+    }
+
+    /// All that is left, blanks included, `\n` for a line's end.
+    fn text(&mut self) -> String {
+        std::mem::take(&mut self.0).replace("\\n", "\n")
+    }
+
+    fn end(&self) -> Compared {
+        match self.0.trim() {
+            "" => Ok(()),
+            more => Err(format!("more fields than such a line has: {more}")),
+        }
     }
 }
 
-type Compared = Result<(), String>;
-
-fn same<T: PartialEq + fmt::Debug>(what: &str, expected: &T, found: &T) -> Compared {
-    if expected == found {
-        return Ok(());
-    }
-    Err(format!("{what}: expected {expected:?}, found {found:?}"))
+fn number_of<T: FromStr>(field: &str) -> Result<T, String> {
+    field.parse().map_err(|_| format!("no such number: {field}"))
 }
 
 fn bytes_of(field: &str) -> Result<Vec<u8>, String> {
-    if field == "-" {
-        return Ok(Vec::new());
+    let digits: Option<Vec<u8>> =
+        field.chars().map(|digit| Some(digit.to_digit(16)? as u8)).collect();
+    match (field, digits) {
+        ("-", _) => Ok(Vec::new()),
+        (_, Some(digits)) if digits.len() % 2 == 0 => {
+            Ok(digits.chunks_exact(2).map(|pair| pair[0] << 4 | pair[1]).collect())
+        }
+        _ => Err(format!("no bytes: {field}")),
     }
-    let unreadable = || format!("no bytes: {field}");
-    if !field.is_ascii() || field.len() % 2 == 1 {
-        return Err(unreadable());
-    }
-    (0..field.len())
-        .step_by(2)
-        .map(|at| u8::from_str_radix(&field[at..at + 2], 16).map_err(|_| unreadable()))
-        .collect()
-}
-
-fn number_of<T: std::str::FromStr>(field: &str) -> Result<T, String> {
-    field.parse().map_err(|_| format!("no such number: {field}"))
 }
 
 fn board_of(field: &str) -> Result<Board, String> {
@@ -130,68 +204,82 @@ fn board_of(field: &str) -> Result<Board, String> {
     })
 }
 
-/// A call that makes a table, into memory of `room` bytes: the answer, and that the memory has the
-/// table at its start and nothing else changed.
-fn made(
-    what: &str,
-    call: &mut dyn FnMut(&mut [u8]) -> (u32, u64),
-    room: usize,
+/// A step's refusal and output.
+fn answer_of(part: &str) -> Result<(u32, u32), String> {
+    let (no, output) = part.split_once(':').ok_or_else(|| format!("no answer: {part}"))?;
+    Ok((number_of(no)?, number_of(output)?))
+}
+
+fn same<T: PartialEq + fmt::Debug>(what: &str, expected: &T, found: &T) -> Compared {
+    if expected == found {
+        return Ok(());
+    }
+    Err(format!("{what}: expected {expected:?}, found {found:?}"))
+}
+
+/// What a maker must answer: refusal and length, and where it is known the table.
+struct Making<'a> {
     no: u32,
     length: u64,
-    table: Option<&[u8]>,
-) -> Compared {
-    let mut result = vec![FILL; room];
-    let answer = call(&mut result);
-    same(what, &(no, length), &answer)?;
-    let written = if no == 0 { length as usize } else { 0 };
-    if let Some(table) = table.filter(|_| no == 0) {
-        same(what, &table, &&result[..written])?;
-    }
-    if result[written..].iter().any(|&byte| byte != FILL) {
-        return Err(format!("{what}: bytes written that are not the table's"));
-    }
-    Ok(())
+    table: Option<&'a [u8]>,
 }
 
-fn tables(
-    sheet: &str,
-    no: &str,
-    supervisor: &str,
-    guard: &str,
-    subject: &mut dyn Subject,
-) -> Compared {
-    let sheet = bytes_of(sheet)?;
-    let no = number_of(no)?;
-    let (supervisor, guard) = (bytes_of(supervisor)?, bytes_of(guard)?);
+impl<'a> Making<'a> {
+    fn of(no: u32, table: &'a [u8]) -> Making<'a> {
+        Making { no, length: table.len() as u64, table: Some(table) }
+    }
+
+    /// Makes a table in memory of `room` bytes, which must have it at the start and else be as it
+    /// was.
+    fn compare(
+        &self,
+        what: &str,
+        room: usize,
+        maker: &mut dyn FnMut(&mut [u8]) -> (u32, u64),
+    ) -> Compared {
+        let mut result = vec![FILL; room];
+        same(what, &(self.no, self.length), &maker(&mut result))?;
+        let written = if self.no == 0 { self.length as usize } else { 0 };
+        let (made, beyond) = result
+            .split_at_checked(written)
+            .ok_or_else(|| format!("{what}: a table of {written} bytes in {room}"))?;
+        let table = self.table.unwrap_or(made);
+        for (at, (expected, found)) in table.iter().zip(made).enumerate() {
+            same(&format!("{what}: byte {at}"), expected, found)?;
+        }
+        if beyond.iter().any(|&byte| byte != FILL) {
+            return Err(format!("{what}: bytes written that are not the table's"));
+        }
+        Ok(())
+    }
+}
+
+fn tables(line: &mut Fields, subject: &mut dyn Subject) -> Compared {
+    let (sheet, no) = (line.bytes()?, line.number()?);
+    let (supervisor, guard) = (line.bytes()?, line.bytes()?);
     let room = reference::GUARD_BYTES_MOST + BEYOND;
-    let mut call = |result: &mut [u8]| subject.make_supervisor(&sheet, result);
-    made("supervisor", &mut call, room, no, supervisor.len() as u64, Some(&supervisor))?;
-    let mut call = |result: &mut [u8]| subject.make_guard(&sheet, result);
-    made("guard", &mut call, room, no, guard.len() as u64, Some(&guard))
+    let mut maker = |result: &mut [u8]| subject.make_supervisor(&sheet, result);
+    Making::of(no, &supervisor).compare("supervisor", room, &mut maker)?;
+    let mut maker = |result: &mut [u8]| subject.make_guard(&sheet, result);
+    Making::of(no, &guard).compare("guard", room, &mut maker)
 }
 
-fn room_for(
-    sheet: &str,
-    room: &str,
-    no: &str,
-    length: &str,
-    subject: &mut dyn Subject,
-) -> Compared {
-    let sheet = bytes_of(sheet)?;
-    let mut call = |result: &mut [u8]| subject.make_guard(&sheet, result);
-    made("guard", &mut call, number_of(room)?, number_of(no)?, number_of(length)?, None)
+fn room(line: &mut Fields, subject: &mut dyn Subject) -> Compared {
+    let (sheet, room) = (line.bytes()?, line.number()?);
+    let making = Making { no: line.number()?, length: line.number()?, table: None };
+    if room > ROOM_MOST {
+        return Err(format!("more result memory than is tried: {room}"));
+    }
+    making.compare("guard", room, &mut |result| subject.make_guard(&sheet, result))
 }
 
-fn listing(rest: &str, subject: &mut dyn Subject) -> Compared {
-    let (sheet, text) = rest.split_once(' ').ok_or("not the fields of such a line")?;
-    same("listing", &text.replace("\\n", "\n"), &subject.list(&bytes_of(sheet)?))
+fn listing(line: &mut Fields, subject: &mut dyn Subject) -> Compared {
+    let (sheet, text) = (line.bytes()?, line.text());
+    same("listing", &text, &subject.list(&sheet))
 }
 
-fn load(table: &str, no: &str, subject: &mut dyn Subject) -> Compared {
-    let table = bytes_of(table)?;
-    let no: u32 = number_of(no)?;
-    let mut board = Board::default();
-    same("number", &no, &subject.load(&mut board, &table))?;
+fn load(line: &mut Fields, subject: &mut dyn Subject) -> Compared {
+    let (table, no): (_, u32) = (line.bytes()?, line.number()?);
     let after = match (no, table.as_slice()) {
         (0, &[_, _, _, _, mode, inputs, outputs, _, low, high, ..]) => Board {
             loaded: true,
@@ -203,54 +291,40 @@ fn load(table: &str, no: &str, subject: &mut dyn Subject) -> Compared {
         },
         _ => Board::default(),
     };
+    let mut board = Board::default();
+    same("number", &no, &subject.load(&mut board, &table))?;
     same("board", &after, &board)
 }
 
-fn step(
-    board: &str,
-    table: &str,
-    input: &str,
-    [no, after, output]: [&str; 3],
-    subject: &mut dyn Subject,
-) -> Compared {
-    let mut board = board_of(board)?;
-    let answer = subject.step(&mut board, &bytes_of(table)?, number_of(input)?);
-    same("number and output", &(number_of(no)?, number_of(output)?), &answer)?;
-    same("board", &board_of(after)?, &board)
+fn step(line: &mut Fields, subject: &mut dyn Subject) -> Compared {
+    let (mut board, table, input) = (line.board()?, line.bytes()?, line.number()?);
+    let (no, after, output) = (line.number()?, line.board()?, line.number()?);
+    same("number and output", &(no, output), &subject.step(&mut board, &table, input))?;
+    same("board", &after, &board)
 }
 
-fn other(board: &str, call: &str, no: &str, after: &str, subject: &mut dyn Subject) -> Compared {
-    let mut board = board_of(board)?;
+fn change(line: &mut Fields, subject: &mut dyn Subject) -> Compared {
+    let (mut board, call, _name) = (line.board()?, line.next()?, line.next()?);
+    let (no, after) = (line.number()?, line.board()?);
     let number = match call {
         "rewind" => subject.rewind(&mut board),
         "unload" => subject.unload(&mut board),
-        _ => return Err(format!("no such call: {call}")),
+        _ => return Err(format!("level {LEVEL} has no call {call}")),
     };
-    same("number", &number_of(no)?, &number)?;
-    same("board", &board_of(after)?, &board)
+    same("number", &no, &number)?;
+    same("board", &after, &board)
 }
 
-fn run_of(
-    table: &str,
-    inputs: &str,
-    answers: &str,
-    after: &str,
-    subject: &mut dyn Subject,
-) -> Compared {
-    let table = bytes_of(table)?;
-    let list = |field: &str| -> Vec<String> {
-        field.split(',').filter(|part| *part != "-").map(str::to_string).collect()
-    };
-    let (inputs, answers) = (list(inputs), list(answers));
+fn steps(line: &mut Fields, subject: &mut dyn Subject) -> Compared {
+    let (table, inputs) = (line.bytes()?, line.list(number_of)?);
+    let (answers, after) = (line.list(answer_of)?, line.board()?);
     same("inputs and answers", &inputs.len(), &answers.len())?;
     let mut board = Board::default();
     same("load", &0, &subject.load(&mut board, &table))?;
-    for (place, (input, answer)) in inputs.iter().zip(&answers).enumerate() {
-        let (no, output) = answer.split_once(':').ok_or(format!("no answer: {answer}"))?;
-        let found = subject.step(&mut board, &table, number_of(input)?);
-        same(&format!("step {place}"), &(number_of(no)?, number_of(output)?), &found)?;
+    for (place, (&input, answer)) in inputs.iter().zip(&answers).enumerate() {
+        same(&format!("step {place}"), answer, &subject.step(&mut board, &table, input))?;
     }
-    same("board", &board_of(after)?, &board)
+    same("board", &after, &board)
 }
 
 #[cfg(test)]
@@ -260,48 +334,109 @@ mod tests {
 
     const A: &str = "06000100000101010000130002000000030001010000000101000002020202020\
                      20e0002000103020000010100000101000001";
+    const EMPTY: &str = "0,0,0,0,0,0,0,0";
 
     fn of(line: &str) -> Outcome {
-        compare(line, &mut Reference)
+        compare(line, LEVEL, &mut Reference)
+    }
+
+    fn run_reference(text: &str) -> (String, Vec<usize>) {
+        let mut reported = Vec::new();
+        let tally = run(text, &mut Reference, &mut |line, _| reported.push(line));
+        (tally.to_string(), reported)
     }
 
     #[test]
-    fn lines_not_known_are_passed_over() {
-        for line in ["S 1 00 0 - -", "Z 0 00", "W", "D 9 00 11 12", "O 0 1,2 mark 3 0 1", "# note"]
-        {
-            assert_eq!(of(line), Outcome::PassedOver, "{line}");
+    fn lines_of_later_levels_are_passed_over() {
+        let next = LEVEL + 1;
+        for rest in ["S {} 00 0 - -", "D {} 00 11 12", "O {} 1,2;3 mark 3 0 1", "ZZ {}"] {
+            let line = rest.replace("{}", &next.to_string());
+            assert_eq!(of(&line), Outcome::PassedOver, "{line}");
         }
     }
 
     #[test]
-    fn lines_that_are_known_are_compared() {
-        assert_eq!(of("S 0 - 2 - -"), Outcome::Agrees);
-        assert_eq!(of("D 0 - 11"), Outcome::Agrees);
-        assert_eq!(of("L - refused 2\\n"), Outcome::Agrees);
-        assert_eq!(of(&format!("R 0 {A} 33 9 0")), Outcome::Agrees);
-        assert_eq!(of("O 0 0,0,0,0,0,0,0,0 unload 7 20 0,0,0,0,0,0,0,0"), Outcome::Agrees);
-    }
-
-    #[test]
-    fn differences_and_unreadable_lines_count_as_differing() {
+    fn lines_of_the_present_level_are_compared() {
         let lines = [
-            "S 0 - 1 - -",
-            "S 0 -",
-            "S 0 0 2 - -",
-            "D 0 - 0",
-            "L - refused 1\\n",
-            "L",
-            "O 0 0,0,0,0,0,0,0,0 unload 7 0 0,0,0,0,0,0,0,0",
-            "O 0 0,0,0,0 unload 7 20 0,0,0,0,0,0,0,0",
-            "B 0 0,0,0,0,0,0,0,0 - 256 20 0,0,0,0,0,0,0,0 0",
+            format!("S {LEVEL} - 2 - -"),
+            format!("D {LEVEL} - 11"),
+            "L - refused 2\\n".to_string(),
+            format!("R {LEVEL} {A} 33 9 0"),
+            format!("O {LEVEL} {EMPTY} unload 7 20 {EMPTY}"),
+            format!("B {LEVEL} {EMPTY} - 255 20 {EMPTY} 0"),
         ];
         for line in lines {
-            assert!(matches!(of(line), Outcome::Differs(_)), "{line}");
+            assert_eq!(of(&line), Outcome::Agrees, "{line}");
         }
-        let wrong = "S 0 - 1 - -\nS 0 - 2 - -\n\nS 5 - 2 - -\n";
-        let mut reported = Vec::new();
-        let tally = run(wrong, &mut Reference, &mut |line, _| reported.push(line));
-        assert_eq!(tally.to_string(), "1 agree, 1 differ, 1 passed over");
-        assert_eq!(reported, [1]);
+    }
+
+    #[test]
+    fn other_answers_differ() {
+        let lines = [
+            format!("S {LEVEL} - 1 - -"),
+            format!("S {LEVEL} - 2 00 -"),
+            format!("S {LEVEL} {A} 0 - -"),
+            format!("D {LEVEL} - 0"),
+            "L - refused 1\\n".to_string(),
+            format!("R {LEVEL} {A} 33 0 46"),
+            format!("O {LEVEL} {EMPTY} unload 7 0 {EMPTY}"),
+            format!("B {LEVEL} {EMPTY} - 255 20 1,0,0,0,0,0,0,0 0"),
+            format!("Q {LEVEL} - - - {EMPTY}"),
+        ];
+        for line in lines {
+            assert!(matches!(of(&line), Outcome::Differs(_)), "{line}");
+        }
+    }
+
+    /// A line that cannot be run is never passed over.
+    #[test]
+    fn lines_that_cannot_be_run_differ() {
+        let mut lines = vec![
+            // Kinds, levels and calls that are not known, and not known to be a later level's.
+            format!("Z {LEVEL} 00"),
+            format!("s {LEVEL} - 2 - -"),
+            format!("O {LEVEL} {EMPTY} leap 7 20 {EMPTY}"),
+            "W".to_string(),
+            "S".to_string(),
+            "S x - 2 - -".to_string(),
+            "S -1 - 2 - -".to_string(),
+            "# note".to_string(),
+            // Fields missing, unreadable, or too many.
+            "L".to_string(),
+            format!("S {LEVEL} -"),
+            format!("S {LEVEL} 0 2 - -"),
+            format!("S {LEVEL} 0x 2 - -"),
+            format!("S {LEVEL} - 2 - - -"),
+            format!("O {LEVEL} 0,0,0,0 unload 7 20 {EMPTY}"),
+            format!("O {LEVEL} {EMPTY} unload 7 20 {EMPTY},0"),
+            format!("B {LEVEL} {EMPTY} - 256 20 {EMPTY} 0"),
+            format!("Q {LEVEL} - 0 0 {EMPTY}"),
+            format!("R {LEVEL} {A} 18446744073709551615 0 46"),
+        ];
+        lines.extend(LEVEL.checked_sub(1).map(|earlier| format!("S {earlier} - 2 - -")));
+        for line in lines {
+            assert!(matches!(of(&line), Outcome::Differs(_)), "{line}");
+        }
+    }
+
+    #[test]
+    fn a_tally_counts_every_line_that_is_not_blank() {
+        let text = format!("S {LEVEL} - 1 - -\nS {LEVEL} - 2 - -\n\nS {} - 2 - -\n", LEVEL + 5);
+        assert_eq!(run_reference(&text), ("1 agree, 1 differ, 1 passed over".to_string(), vec![1]));
+        let text = format!("\nZ\r\nS {LEVEL} - 2 - -\r\n");
+        assert_eq!(run_reference(&text), ("1 agree, 1 differ, 0 passed over".to_string(), vec![2]));
+    }
+
+    #[test]
+    fn a_listing_has_the_level_of_its_file() {
+        let (right, wrong) = ("L - refused 2\\n", "L - refused 1\\n");
+        let later = format!("{wrong}\nS {} - 2 - -\n", LEVEL + 1);
+        let tally = |text: &str| run_reference(text).0;
+        assert_eq!(tally(&later), "0 agree, 0 differ, 2 passed over");
+        assert_eq!(
+            tally(&format!("{later}{right}\nD {LEVEL} - 11\n")),
+            "2 agree, 1 differ, 1 passed over"
+        );
+        assert_eq!(tally(&format!("{right}\n{wrong}\n")), "1 agree, 1 differ, 0 passed over");
     }
 }

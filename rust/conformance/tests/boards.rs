@@ -17,7 +17,11 @@ fn bytes_of(random: &mut Random, board: &Board) -> [u8; calls::BOARD_BYTES] {
 }
 
 /// What the library's board must be after a call: untouched on a refusal.
-fn expected(before: [u8; calls::BOARD_BYTES], number: u32, after: &Board) -> [u8; 16] {
+fn expected(
+    before: [u8; calls::BOARD_BYTES],
+    number: u32,
+    after: &Board,
+) -> [u8; calls::BOARD_BYTES] {
     if number == 0 {
         subject::to_bytes(after)
     } else {

@@ -6,7 +6,7 @@ use std::collections::BTreeMap;
 use conformance::{cases, generate, seed, subject, Random};
 use guard::{calls, Work};
 
-const WORK_SHORT: u32 = 10;
+const SHORT_WORK: u32 = reference::Refusal::ShortWork.number();
 
 /// Bytes on either side of the result memory that is lent.
 const MARGIN: usize = 32;
@@ -67,7 +67,8 @@ impl Kind {
             Kind::Supervisor => reference::make_supervisor(sheet, result),
             Kind::Guard => reference::make_guard(sheet, result),
         };
-        let figures = made.map_or([0; 2], |made| [made.length as u64, made.states as u64]);
+        let figures =
+            made.map_or([0; calls::FIGURES], |made| [made.length as u64, made.states as u64]);
         (subject::number(&made), figures)
     }
 
@@ -126,9 +127,10 @@ fn compare(kind: Kind, sheet: &[u8], random: &mut Random) -> u32 {
         shorten(&mut work, slice, random);
     }
     let before = work.clone();
-    let answer = match short {
-        true => (WORK_SHORT, [0; calls::FIGURES]),
-        false => kind.by_reference(sheet, &mut expected[lent.clone()]),
+    let answer = if short {
+        (SHORT_WORK, [0; calls::FIGURES])
+    } else {
+        kind.by_reference(sheet, &mut expected[lent.clone()])
     };
     let read = sheet.to_vec();
     let found = kind.by_library(&read, &mut memory[lent], &mut work);
@@ -172,9 +174,10 @@ fn each_work_slice_has_its_own_bound() {
                 let mut result = vec![0xA5; 64];
                 let (number, figures) = kind.by_library(sheet, &mut result, &mut work);
                 let mut expected = vec![0xA5; 64];
-                let answer = match slice < kind.slices() {
-                    true => (WORK_SHORT, [0; 2]),
-                    false => kind.by_reference(sheet, &mut expected),
+                let answer = if slice < kind.slices() {
+                    (SHORT_WORK, [0; calls::FIGURES])
+                } else {
+                    kind.by_reference(sheet, &mut expected)
                 };
                 assert_eq!((number, figures), answer, "{kind:?}, slice {slice}");
                 assert_eq!(result, expected, "{kind:?}, slice {slice}");

@@ -15,13 +15,21 @@ pub struct Board {
 /// A board's record, field by field.
 #[derive(Clone, Copy, Debug, Default, PartialEq, Eq, Hash)]
 pub struct Fields {
+    /// Whether a table was loaded.
     pub loaded: bool,
+    /// The table's mode: 0 decides alone, 1 corrects a proposal.
     pub mode: u8,
+    /// The table's input lines.
     pub inputs: u8,
+    /// The table's output lines.
     pub outputs: u8,
+    /// The table's states.
     pub count: u16,
+    /// The state that the run is in.
     pub place: u16,
+    /// The steps since loading or rewinding.
     pub steps: u32,
+    /// In mode 1, at how many of the steps the output differed from the proposal.
     pub deviations: u32,
 }
 
@@ -41,12 +49,14 @@ impl Board {
         self.bytes
     }
 
-    /// Loads a table and begins a run: 21, 11.
+    /// Loads a table and begins a run. Refused, in this order: [`Refusal::Occupied`],
+    /// [`Refusal::BadTable`].
     pub fn load(&mut self, table: impl AsRef<[u8]>) -> Result<(), Refusal> {
         Refusal::check(calls::load(&mut self.bytes, table.as_ref()))
     }
 
-    /// Answers an input by an output and moves on: 20, 22, 12, 11.
+    /// Answers an input by an output and moves on. Refused, in this order: [`Refusal::Empty`],
+    /// [`Refusal::Spent`], [`Refusal::BadInput`], [`Refusal::BadTable`].
     #[inline]
     pub fn step(&mut self, table: impl AsRef<[u8]>, input: u8) -> Result<u8, Refusal> {
         let (number, output) = calls::step(&mut self.bytes, table.as_ref(), input);
@@ -54,12 +64,12 @@ impl Board {
         Ok(output as u8)
     }
 
-    /// Begins the run again: 20.
+    /// Begins the run again. Refused: [`Refusal::Empty`].
     pub fn rewind(&mut self) -> Result<(), Refusal> {
         Refusal::check(calls::rewind(&mut self.bytes))
     }
 
-    /// Empties the board: 20.
+    /// Empties the board. Refused: [`Refusal::Empty`].
     pub fn unload(&mut self) -> Result<(), Refusal> {
         Refusal::check(calls::unload(&mut self.bytes))
     }

@@ -1,7 +1,9 @@
 //! The library's calls as they are: one function each, with the numbers of document 01.
 //!
-//! This is the only module with unsafe code, and the only place that knows the signatures. For
-//! each, 0 is "not refused". A slice crosses as a pointer and a length.
+//! This is the only module with unsafe code, and the only place that knows the signatures, which
+//! are those of crates/ffi/src/lib.rt. For each, 0 is "not refused". A slice crosses as a pointer
+//! and a length in elements; the library reads through `*const`, reads and writes through `*mut`,
+//! and keeps no pointer when it returns.
 
 use crate::Work;
 
@@ -63,9 +65,6 @@ library! {
     fn hz_unload(board: *mut u8, board_len: usize) -> u32;
 }
 
-// Each call below lends slices that are valid for its length and time; those that the library may
-// write are exclusive, as `&mut` has it, and it keeps none of them.
-
 /// Makes a supervisor table; `work` lends tuples, cells and dropped.
 pub fn make_supervisor(
     sheet: &[u8],
@@ -73,7 +72,10 @@ pub fn make_supervisor(
     work: &mut Work,
     figures: &mut [u64; FIGURES],
 ) -> u32 {
-    // SAFETY: see above.
+    // SAFETY: `sheet` is valid for reads of its length. `result`, `figures` and the vectors tuples,
+    // cells and dropped are each valid for reads and writes of their own length; each is borrowed
+    // by `&mut` or owned by what is, so that no two of the six overlap. The one length asked for is
+    // that of the figures, at least 2, and `FIGURES` is 2; shorter work or result memory is refused.
     unsafe {
         hz_make_supervisor(
             sheet.as_ptr(),
@@ -99,7 +101,10 @@ pub fn make_guard(
     work: &mut Work,
     figures: &mut [u64; FIGURES],
 ) -> u32 {
-    // SAFETY: see above.
+    // SAFETY: `sheet` is valid for reads of its length. `result`, `figures` and the ten vectors of
+    // `work` are each valid for reads and writes of their own length; each is borrowed by `&mut` or
+    // owned by what is, so that no two of the thirteen overlap. The one length asked for is that of
+    // the figures, at least 2, and `FIGURES` is 2; shorter work or result memory is refused.
     unsafe {
         hz_make_guard(
             sheet.as_ptr(),
@@ -134,14 +139,19 @@ pub fn make_guard(
 
 /// Loads a table.
 pub fn load(board: &mut [u8; BOARD_BYTES], table: &[u8]) -> u32 {
-    // SAFETY: see above; the board has its fixed length.
+    // SAFETY: `table` is valid for reads of its length. `board` is valid for reads and writes of the
+    // 16 bytes asked for, which its type has, and exclusive, so that it does not overlap the table.
+    // Of the table no length is asked for: one that is not a table's is refused.
     unsafe { hz_load(board.as_mut_ptr(), board.len(), table.as_ptr(), table.len()) }
 }
 
 /// Steps, and answers the number and the output.
 #[inline]
 pub fn step(board: &mut [u8; BOARD_BYTES], table: &[u8], input: u8) -> (u32, u32) {
-    // SAFETY: see above; the board has its fixed length.
+    // SAFETY: `table` is valid for reads of its length. `board` is valid for reads and writes of the
+    // 16 bytes asked for, which its type has, and exclusive, so that it does not overlap the table.
+    // Of the table no length is asked for: one that is not the board's is refused. Any input may be
+    // given.
     let answer =
         unsafe { hz_step(board.as_mut_ptr(), board.len(), table.as_ptr(), table.len(), input) };
     (answer & 0xFFFF, answer >> 16)
@@ -149,12 +159,14 @@ pub fn step(board: &mut [u8; BOARD_BYTES], table: &[u8], input: u8) -> (u32, u32
 
 /// Rewinds.
 pub fn rewind(board: &mut [u8; BOARD_BYTES]) -> u32 {
-    // SAFETY: see above; the board has its fixed length.
+    // SAFETY: `board` is exclusive, and valid for reads and writes of the 16 bytes asked for, which
+    // its type has. Any values may stand in them.
     unsafe { hz_rewind(board.as_mut_ptr(), board.len()) }
 }
 
 /// Unloads.
 pub fn unload(board: &mut [u8; BOARD_BYTES]) -> u32 {
-    // SAFETY: see above; the board has its fixed length.
+    // SAFETY: `board` is exclusive, and valid for reads and writes of the 16 bytes asked for, which
+    // its type has. Any values may stand in them.
     unsafe { hz_unload(board.as_mut_ptr(), board.len()) }
 }

@@ -8,7 +8,9 @@
 //!
 //! The work is done by functions that were proved to meet their contracts, linked as a static
 //! library; all that this crate adds is types. What is unsafe is in the module [`calls`], where
-//! each function is one call of the library and nothing more.
+//! each function is one call of the library and nothing more. A call answers by document 01's
+//! number, 0 or that of a [`Refusal`]; a number that has no name is an error too
+//! ([`Refusal::Unknown`]), and none makes this crate panic.
 //!
 //! # Example
 //!
@@ -37,12 +39,15 @@
 //! board.load(&guard)?;
 //! assert_eq!(board.step(&guard, 1)?, 1);
 //! assert_eq!(board.step(&guard, 1)?, 0);
-//! assert_eq!(board.step(&guard, 2), Err(Refusal::Input)); // one line has no input 2
+//! assert_eq!(board.step(&guard, 2), Err(Refusal::BadInput)); // one line has no input 2
 //! assert_eq!(board.steps(), 2);
 //! # Ok::<(), Refusal>(())
 //! ```
 
+#![warn(missing_docs)]
+
 mod board;
+#[allow(unsafe_code)]
 pub mod calls;
 mod refusal;
 mod tables;

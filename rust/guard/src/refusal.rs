@@ -1,76 +1,97 @@
 use std::fmt;
 
-/// Why a call was refused.
+/// Why a call was refused: document 01's number, under the name that the proved library's source
+/// has for it.
 #[derive(Clone, Copy, Debug, PartialEq, Eq, Hash)]
 #[non_exhaustive]
 pub enum Refusal {
     /// 1: one to three bytes left for a record, or its body runs past the end.
-    RecordCut,
+    Truncated,
     /// 2: no record, the first not a head, a second head, or an unknown kind.
-    RecordKind,
+    Misplaced,
     /// 3: the head's length or a field of it is wrong, H aside.
-    Head,
+    BadHead,
     /// 4: a monitor's length or a field of it is wrong.
-    Monitor,
+    BadMonitor,
     /// 5: a seventh monitor.
     SeventhMonitor,
     /// 6: H, or inputs times H, above 24.
-    Horizon,
+    LongHorizon,
     /// 7: more than 256 product states.
     TooManyStates,
     /// 8: the start is not kept.
     Unrealizable,
     /// 9: the result memory is shorter than the table.
-    ResultShort,
+    ShortResult,
     /// 10: a slice of work memory is shorter than its constant.
-    WorkShort,
+    ShortWork,
     /// 11: not a table to load, or unlike the board's.
-    Table,
+    BadTable,
     /// 12: the step's input is not below 2^inputs.
-    Input,
+    BadInput,
     /// 20: the board is empty.
     Empty,
     /// 21: the board is loaded.
-    Loaded,
+    Occupied,
     /// 22: 1,000,000 steps are taken.
     Spent,
+    /// Any other number. The library that this crate was written for never answers so; another
+    /// one was linked, a later one say, and nothing is known of what the call did.
+    Unknown(u32),
 }
 
 impl Refusal {
-    /// Every refusal with its number.
-    const NUMBERS: [(Refusal, u32); 15] = [
-        (Refusal::RecordCut, 1),
-        (Refusal::RecordKind, 2),
-        (Refusal::Head, 3),
-        (Refusal::Monitor, 4),
-        (Refusal::SeventhMonitor, 5),
-        (Refusal::Horizon, 6),
-        (Refusal::TooManyStates, 7),
-        (Refusal::Unrealizable, 8),
-        (Refusal::ResultShort, 9),
-        (Refusal::WorkShort, 10),
-        (Refusal::Table, 11),
-        (Refusal::Input, 12),
-        (Refusal::Empty, 20),
-        (Refusal::Loaded, 21),
-        (Refusal::Spent, 22),
+    /// The refusals that have a name, by their numbers ascending.
+    pub const NAMED: [Refusal; 15] = [
+        Refusal::Truncated,
+        Refusal::Misplaced,
+        Refusal::BadHead,
+        Refusal::BadMonitor,
+        Refusal::SeventhMonitor,
+        Refusal::LongHorizon,
+        Refusal::TooManyStates,
+        Refusal::Unrealizable,
+        Refusal::ShortResult,
+        Refusal::ShortWork,
+        Refusal::BadTable,
+        Refusal::BadInput,
+        Refusal::Empty,
+        Refusal::Occupied,
+        Refusal::Spent,
     ];
 
     /// Document 01's number.
-    pub fn number(self) -> u32 {
-        Refusal::NUMBERS[self as usize].1
+    pub const fn number(self) -> u32 {
+        match self {
+            Refusal::Truncated => 1,
+            Refusal::Misplaced => 2,
+            Refusal::BadHead => 3,
+            Refusal::BadMonitor => 4,
+            Refusal::SeventhMonitor => 5,
+            Refusal::LongHorizon => 6,
+            Refusal::TooManyStates => 7,
+            Refusal::Unrealizable => 8,
+            Refusal::ShortResult => 9,
+            Refusal::ShortWork => 10,
+            Refusal::BadTable => 11,
+            Refusal::BadInput => 12,
+            Refusal::Empty => 20,
+            Refusal::Occupied => 21,
+            Refusal::Spent => 22,
+            Refusal::Unknown(number) => number,
+        }
     }
 
-    /// The refusal of a number, if there is one.
+    /// The named refusal of a number, if there is one.
     pub fn from_number(number: u32) -> Option<Refusal> {
-        Refusal::NUMBERS.iter().find(|(_, n)| *n == number).map(|(refusal, _)| *refusal)
+        Refusal::NAMED.into_iter().find(|refusal| refusal.number() == number)
     }
 
     /// A call's answer: 0, or the number of a refusal.
     pub(crate) fn check(number: u32) -> Result<(), Refusal> {
         match number {
             0 => Ok(()),
-            _ => Err(Refusal::from_number(number).expect("the library answers by known numbers")),
+            _ => Err(Refusal::from_number(number).unwrap_or(Refusal::Unknown(number))),
         }
     }
 }
@@ -78,21 +99,22 @@ impl Refusal {
 impl fmt::Display for Refusal {
     fn fmt(&self, f: &mut fmt::Formatter<'_>) -> fmt::Result {
         let ground = match self {
-            Refusal::RecordCut => "a record is cut",
-            Refusal::RecordKind => "no head first, a second head, or a record of unknown kind",
-            Refusal::Head => "the head's length or a field of it is wrong",
-            Refusal::Monitor => "a monitor's length or a field of it is wrong",
+            Refusal::Truncated => "a record is cut",
+            Refusal::Misplaced => "no head first, a second head, or a record of unknown kind",
+            Refusal::BadHead => "the head's length or a field of it is wrong",
+            Refusal::BadMonitor => "a monitor's length or a field of it is wrong",
             Refusal::SeventhMonitor => "a seventh monitor",
-            Refusal::Horizon => "the horizon is too long",
+            Refusal::LongHorizon => "the horizon is too long",
             Refusal::TooManyStates => "more than 256 product states",
             Refusal::Unrealizable => "unrealizable: the start is not kept",
-            Refusal::ResultShort => "the result memory is shorter than the table",
-            Refusal::WorkShort => "the work memory is too short",
-            Refusal::Table => "not a table to load, or not the board's",
-            Refusal::Input => "no such input",
+            Refusal::ShortResult => "the result memory is shorter than the table",
+            Refusal::ShortWork => "the work memory is too short",
+            Refusal::BadTable => "not a table to load, or not the board's",
+            Refusal::BadInput => "no such input",
             Refusal::Empty => "the board is empty",
-            Refusal::Loaded => "the board is loaded",
+            Refusal::Occupied => "the board is loaded",
             Refusal::Spent => "1,000,000 steps are taken",
+            Refusal::Unknown(_) => "a number without a name: another library was linked",
         };
         write!(f, "refused {}: {ground}", self.number())
     }
@@ -105,13 +127,22 @@ mod tests {
     use super::*;
 
     #[test]
-    fn numbers_stand_in_the_order_of_the_cases() {
-        for (place, (refusal, number)) in Refusal::NUMBERS.into_iter().enumerate() {
-            assert_eq!(refusal as usize, place);
-            assert_eq!(refusal.number(), number);
-            assert_eq!(Refusal::from_number(number), Some(refusal));
+    fn numbers_ascend_and_name_their_refusals() {
+        assert!(Refusal::NAMED.is_sorted_by_key(|refusal| refusal.number()));
+        for refusal in Refusal::NAMED {
+            assert_eq!(Refusal::from_number(refusal.number()), Some(refusal));
+            assert_eq!(Refusal::check(refusal.number()), Err(refusal));
         }
+    }
+
+    #[test]
+    fn a_number_without_a_name_is_an_error_of_its_own() {
+        assert_eq!(Refusal::check(0), Ok(()));
         assert_eq!(Refusal::from_number(0), None);
-        assert_eq!(Refusal::from_number(13), None);
+        for number in [13, 19, 23, 0xFFFF, u32::MAX] {
+            assert_eq!(Refusal::from_number(number), None);
+            assert_eq!(Refusal::check(number), Err(Refusal::Unknown(number)));
+            assert_eq!(Refusal::Unknown(number).number(), number);
+        }
     }
 }

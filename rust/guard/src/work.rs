@@ -2,7 +2,7 @@
 ///
 /// It may hold anything when a call begins, and is all zero when one returns: what the call was
 /// lent, over its whole length. A slice may be longer than its constant; a shorter one is refused
-/// ([`Refusal::WorkShort`](crate::Refusal::WorkShort)).
+/// ([`Refusal::ShortWork`](crate::Refusal::ShortWork)).
 #[derive(Clone, Debug, PartialEq, Eq)]
 pub struct Work {
     /// The product states, twelve monitor states each.
@@ -27,6 +27,8 @@ pub struct Work {
     pub numbers: Vec<u16>,
 }
 
+/// The least lengths, in elements.
+#[allow(missing_docs)]
 impl Work {
     pub const TUPLES: usize = 3072;
     pub const CELLS: usize = 16384;
@@ -38,7 +40,9 @@ impl Work {
     pub const CHOICES: usize = 4096;
     pub const ORDER: usize = 256;
     pub const NUMBERS: usize = 256;
+}
 
+impl Work {
     /// As much as both makers need.
     pub fn new() -> Work {
         Work {
@@ -81,6 +85,7 @@ impl Default for Work {
     }
 }
 
+// Document 01's bound on the bytes of all work memory together.
 const _: () = assert!(
     Work::TUPLES
         + Work::CHOICES

@@ -71,9 +71,9 @@ impl Board {
     /// Takes a table's head and begins a run.
     pub fn load(&mut self, table: &[u8]) -> Result<(), Refusal> {
         if self.is_live() {
-            return Err(Refusal::Loaded);
+            return Err(Refusal::Occupied);
         }
-        let head = loadable(table).ok_or(Refusal::Table)?;
+        let head = loadable(table).ok_or(Refusal::BadTable)?;
         *self = Board {
             loaded: true,
             mode: head.mode,
@@ -94,16 +94,16 @@ impl Board {
             return Err(Refusal::Spent);
         }
         if u32::from(input) >= 1 << self.inputs {
-            return Err(Refusal::Input);
+            return Err(Refusal::BadInput);
         }
         if table.len() != guard_len(usize::from(self.count), self.inputs) {
-            return Err(Refusal::Table);
+            return Err(Refusal::BadTable);
         }
         let row = guard_len(usize::from(self.place), self.inputs) + RECORD_HEADER;
         let at = row + 2 * usize::from(input);
         let (output, next) = (table[at], u16::from(table[at + 1]));
         if output >> self.outputs != 0 || next >= self.count {
-            return Err(Refusal::Table);
+            return Err(Refusal::BadTable);
         }
         self.place = next;
         self.steps += 1;

@@ -1,8 +1,8 @@
 //! Guard tables from hard and weighted monitors, in plain Rust.
 //!
 //! This crate was written from the paper alone ("document 01") and shares nothing with the
-//! proved library, which it is compared with: it is the outside evidence for the readings, and
-//! the yardstick for the speed.
+//! proved library, which it is compared with, but the names of the refusals: it is the outside
+//! evidence for the readings, and the yardstick for the speed.
 //!
 //! The way of the data: the bytes of a site sheet become a [`Sheet`]; [`Product`] numbers the
 //! product states and holds their steps; [`Kept`] tells which of them survive the rounds;

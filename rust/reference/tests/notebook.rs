@@ -162,9 +162,9 @@ fn p8_output_order() {
 fn p9_bounds_on_the_horizon() {
     let made = |lines_in, horizon| guard_table(&head(0, lines_in, horizon, 0, &[0]));
     assert!(made(4, 6).is_ok());
-    assert_eq!(made(4, 7), Err(Refusal::Horizon));
+    assert_eq!(made(4, 7), Err(Refusal::LongHorizon));
     assert!(made(0, 24).is_ok());
-    assert_eq!(made(0, 25), Err(Refusal::Horizon));
+    assert_eq!(made(0, 25), Err(Refusal::LongHorizon));
 }
 
 #[test]
@@ -176,7 +176,7 @@ fn p10_a_seventh_monitor_of_bad_weight() {
     assert_eq!(guard_table(&[six.clone(), good].concat()), Err(Refusal::SeventhMonitor));
     assert_eq!(guard_table(&[six, bad.clone()].concat()), Err(Refusal::SeventhMonitor));
     let early = [head(0, 1, 0, 0, &[0]), bad].concat();
-    assert_eq!(guard_table(&early), Err(Refusal::Monitor));
+    assert_eq!(guard_table(&early), Err(Refusal::BadMonitor));
 }
 
 #[test]
@@ -195,7 +195,7 @@ fn counters_moved_by_different_lines() {
 fn result_memory_one_byte_short() {
     let table = guard_table(&sheet_a()).unwrap();
     let mut result = vec![0xA5; table.len() - 1];
-    assert_eq!(make_guard(&sheet_a(), &mut result), Err(Refusal::ResultShort));
+    assert_eq!(make_guard(&sheet_a(), &mut result), Err(Refusal::ShortResult));
     assert!(result.iter().all(|&b| b == 0xA5));
     let mut result = vec![0xA5; table.len() + 1];
     let made = make_guard(&sheet_a(), &mut result).unwrap();
@@ -214,9 +214,9 @@ fn a_board_takes_no_step_after_the_millionth() {
     let before = board;
     assert_eq!(board.step(&table, 2), Err(Refusal::Spent));
     assert_eq!(board, before);
-    assert_eq!(board.load(&table), Err(Refusal::Loaded));
+    assert_eq!(board.load(&table), Err(Refusal::Occupied));
     board.rewind().unwrap();
-    assert_eq!(board.step(&table, 2), Err(Refusal::Input));
+    assert_eq!(board.step(&table, 2), Err(Refusal::BadInput));
     board.unload().unwrap();
     assert_eq!(board, Board::default());
 }

@@ -1,7 +1,8 @@
 //! Runs a vectors file against the reference or the library.
 //!
-//! Usage: `vectors reference FILE` or `vectors library FILE [--listing PROGRAM]`. The last line is
-//! `N agree, M differ, K passed over`; the exit status is 1 where M is not 0, and 2 for bad usage.
+//! Usage: `vectors reference FILE` or `vectors library FILE [--listing PROGRAM]`. Each line of the
+//! file that differs or cannot be run is named, with the reason. The last line is `N agree, M
+//! differ, K passed over`; the exit status is 1 where M is not 0, and 2 for bad usage.
 
 use std::path::PathBuf;
 use std::process::ExitCode;
