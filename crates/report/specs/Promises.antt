@@ -29,7 +29,7 @@ listedLength ShortText = 0
 
 -- ---- what a writer does
 
--- the number for a text in memory of `room` bytes: 11 where no text is due, else 9 exactly if the text is longer
+-- the number for a text in memory of `room` bytes: 11 where none is due, for want of a table; else 9 exactly if it is longer
 unfoldable pub textNumber : Bool → List ℕ → ℕ → ℕ
 textNumber due words room = cond due (cond (ltb room (length words)) 9 0) 11
 

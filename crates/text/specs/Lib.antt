@@ -1,4 +1,4 @@
--- The text of a listing (Listing), and how it is put into memory.
+-- The text of a listing (Listing), how it is put into memory, and how long it is (Lengths).
 pub mod Listing
 pub mod Put
 pub mod Digits
