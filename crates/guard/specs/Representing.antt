@@ -8,9 +8,8 @@ use Rattle.records.specs.Limits.{maxStates}
 use Rattle.records.specs.Lists.{tab, length-tab, getD-tab}
 use Rattle.sheet.specs.Decoded.{Decoded, HeadOk}
 use Rattle.product.specs.Step.{inputsOf, outputsOf, advance, unbroken, reward, firstTuple}
-use Rattle.product.specs.States.{same}
 use Rattle.product.specs.Numbered.{stateCount, stateOf}
-use Rattle.product.specs.NumberedLaws.{first-state, same-equal, same-self}
+use Rattle.product.specs.NumberedLaws.{first-state}
 use Rattle.game.specs.Guard as guard
 use Rattle.game.specs.Simulation.{Represents}
 use Rattle.supervisor.specs.Meaning.{Kept}
@@ -39,29 +38,29 @@ module _ (d : Decoded) (fits : stateCount d ≤ maxStates) (realizable : Kept d 
   -- the tuple of the starts is winning
   pub start-winning : Winning d (firstTuple d)
   start-winning =
-      guard.start-winning (List ℕ) same (inputsOf d) (outputsOf d) (advance d) (unbroken d) (firstTuple d) (stateCount d) (reward d)
+      guard.start-winning (List ℕ) (inputsOf d) (outputsOf d) (advance d) (unbroken d) (firstTuple d) (stateCount d) (reward d)
       (rank (d .literals)) h (settled-quiet d fits) realizable
 
   module _ (ok : HeadOk d) where
     -- in a winning tuple the choice is the run book's move
     pub choice-moves : (t : List ℕ) (i : ℕ) → Winning d t → i < inputsOf d → Move d h t i (choiceAt d h t i)
     choice-moves =
-        guard.pick-move (List ℕ) same (inputsOf d) (outputsOf d) (advance d) (unbroken d) (firstTuple d) (stateCount d) (reward d)
-        (rank (d .literals)) h (settled-quiet d fits) realizable same-equal same-self (Higher (d .literals))
+        guard.pick-move (List ℕ) (inputsOf d) (outputsOf d) (advance d) (unbroken d) (firstTuple d) (stateCount d) (reward d)
+        (rank (d .literals)) h (settled-quiet d fits) realizable (Higher (d .literals))
         (λ o q ho hq. rank-order (d .literals) o q) (ranks-differ d ok)
 
     -- and there is no other
     pub move-is : (t : List ℕ) (i o : ℕ) → Winning d t → i < inputsOf d → Move d h t i o → o ≡ choiceAt d h t i
     move-is =
-        guard.pick-only (List ℕ) same (inputsOf d) (outputsOf d) (advance d) (unbroken d) (firstTuple d) (stateCount d) (reward d)
-        (rank (d .literals)) h (settled-quiet d fits) realizable same-equal same-self (Higher (d .literals))
+        guard.pick-only (List ℕ) (inputsOf d) (outputsOf d) (advance d) (unbroken d) (firstTuple d) (stateCount d) (reward d)
+        (rank (d .literals)) h (settled-quiet d fits) realizable (Higher (d .literals))
         (λ o q ho hq. rank-order (d .literals) o q) (ranks-differ d ok)
 
     -- the move leads to a winning tuple
     pub move-winning : (t : List ℕ) (i o : ℕ) → Winning d t → i < inputsOf d → Move d h t i o → Winning d (advance d t i o)
     move-winning =
-        guard.move-winning (List ℕ) same (inputsOf d) (outputsOf d) (advance d) (unbroken d) (firstTuple d) (stateCount d) (reward d)
-        (rank (d .literals)) h (settled-quiet d fits) realizable same-equal same-self (Higher (d .literals))
+        guard.move-winning (List ℕ) (inputsOf d) (outputsOf d) (advance d) (unbroken d) (firstTuple d) (stateCount d) (reward d)
+        (rank (d .literals)) h (settled-quiet d fits) realizable (Higher (d .literals))
         (λ o q ho hq. rank-order (d .literals) o q) (ranks-differ d ok)
 
     -- the guard's places stand for its tuples
