@@ -9,14 +9,15 @@ use lib.Dec.{eqb}
 use lib.ListN.{length}
 use borrow.Author.Tests.{le-leb, lt-leb, lt-ltb, le-ltb}
 use Rattle.records.specs.Tests.{by-test}
-use Rattle.records.specs.Cursor.{readAt, sizeAt, kindAt, bodyAt, endAt, read-cases}
+use Rattle.records.specs.Cursor.{sizeAt, kindAt, bodyAt, endAt, read-cases}
 use Rattle.records.specs.Limits.{maxMonitors, horizonOk}
 use Rattle.fields.specs.Places.{modeAt, siteAt, outputsAt, horizonAt}
 use Rattle.fields.specs.Lines.{inputsOf}
 use Rattle.fields.specs.Head.{headOk}
+use Rattle.fields.specs.Monitor.{monitorOk}
 use Rattle.sheet.specs.Layout.{accepted, refused, verdictNumber, withMonitor}
 use Rattle.sheet.specs.Head.{headSheet, readHead}
-use Rattle.sheet.specs.Monitor.{monitorOk, monitorAt, takeMonitor}
+use Rattle.sheet.specs.Monitor.{monitorAt, takeMonitor}
 use Rattle.sheet.specs.Reader.{after, takeRecord, onFound, readRecords, firstFound, reading}
 use Rattle.sheet.specs.Refusals.{unless, firstNumber, headNumber, monitorNumber, laterNumber, recordsNumber, sheetNumber}
 use Rattle.sheet.specs.declared.layout.Monitor.{Monitor}

@@ -11,7 +11,7 @@ use Rattle.records.specs.Limits.{maxMonitors, horizonOk}
 use Rattle.fields.specs.Places.{modeAt, siteAt, outputsAt, horizonAt}
 use Rattle.fields.specs.Lines.{inputsOf}
 use Rattle.fields.specs.Head.{headOk}
-use Rattle.sheet.specs.Monitor.{monitorOk}
+use Rattle.fields.specs.Monitor.{monitorOk}
 
 -- the ground's number where its test is not passed, else what is due after it
 abbrev pub unless : Bool → ℕ → ℕ → ℕ
@@ -60,7 +60,7 @@ recordsNumber (suc room) s head at =
 -- the whole sheet
 unfoldable pub sheetNumber : List ℕ → ℕ
 sheetNumber s =
-    -- 1: as above
+    -- 1: 1 to 3 bytes left for a record, or its body runs past the end
     firstNumber (foundNumber (readAt s 0))
     -- 2: no record, first not a head
     (unless (ltb 0 (length s)) 2
