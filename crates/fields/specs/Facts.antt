@@ -8,14 +8,14 @@ use native.Mathlib.Omega.{arith}
 use borrow.Author.Tests.{leb-true, ltb-true, eqb-true}
 use lib.Dec.{eqb}
 use Rattle.records.specs.Tests.{and-left, and-right}
-use Rattle.records.specs.Limits.{maxInputs, maxOutputs, maxLines, maxMonitorStates, linesOk, lines-facts}
+use Rattle.records.specs.Limits.{maxInputs, maxOutputs, maxLines, maxMonitorStates, lines-facts}
 use Rattle.fields.specs.Places.{headNumbers, modeAt, siteAt, outputsAt, matchingAt, monitorNumbers}
 use Rattle.fields.specs.Lines.{inputsOf}
 use Rattle.fields.specs.Head.{siteOk, numbersOk, headOk}
 use Rattle.fields.specs.Monitor.{statesOk}
 
 -- the site's lines are among the guard's inputs
-site-le : (mode site outputs : ℕ) → site ≤ inputsOf mode site outputs
+pub site-le : (mode site outputs : ℕ) → site ≤ inputsOf mode site outputs
 unfolding inputsOf
 site-le mode site outputs = go (eqb mode 1)
   where

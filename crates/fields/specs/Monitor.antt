@@ -2,12 +2,13 @@
 -- Assumes nothing.
 use mathlib.Core.Bool.{Bool, false, cond, not, _&&_}
 use mathlib.Core.List.{List}
-use Prim.Native.Nat.{ℕ, _+_, _*_}
+use Prim.Native.Nat.{ℕ, _+_, _-_, _*_}
 use lib.Dec.{ltb, leb, eqb}
 use lib.ListN.{getD}
 use Rattle.records.specs.Bounded.{all}
 use Rattle.records.specs.Limits.{maxMonitorStates}
-use Rattle.fields.specs.Places.{monitorNumbers}
+use Rattle.fields.specs.Places.{monitorNumbers, roleAt, weightAt, statesAt, firstAt, acceptFrom, rowsFrom}
+use Rattle.fields.specs.Lines.{lettersOf}
 
 -- role and weight: hard with none, soft with one, a limit in mode 1 with none
 unfoldable pub roleOk : ℕ → ℕ → ℕ → Bool
@@ -23,3 +24,14 @@ statesOk states start letters size =
 -- each of n bytes is at most `most`
 unfoldable pub bytesMost : List ℕ → ℕ → ℕ → ℕ → Bool
 bytesMost s at n most = all n (λ k. leb (getD s (at + k) 0) most)
+
+-- a monitor's body under a head with this mode and these lines: the tables only where the numbers are in order
+unfoldable pub monitorOk : List ℕ → ℕ → ℕ → ℕ → ℕ → ℕ → Bool
+monitorOk s mode site outputs start size =
+    leb monitorNumbers size
+    && (roleOk mode (roleAt s start) (weightAt s start)
+    && (statesOk (statesAt s start) (firstAt s start) (lettersOf (roleAt s start) site outputs) size
+    -- the accept bytes are 0 or 1
+    && (bytesMost s (acceptFrom start) (statesAt s start) 1
+    -- a next state for each state and letter
+    && bytesMost s (rowsFrom s start) (statesAt s start * lettersOf (roleAt s start) site outputs) (statesAt s start - 1))))

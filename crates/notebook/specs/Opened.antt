@@ -13,8 +13,8 @@ use Rattle.sheet.specs.Decoded.{inputsOf, lettersOf, encode, encodeHead, encode
 use Rattle.sheet.specs.Layout.{withMonitor}
 use Rattle.fields.specs.Head.{siteOk, freshLine, literalOk, literalsOk, numbersOk, headOk, literalAt}
 use Rattle.sheet.specs.Head.{headSheet, readHead}
-use Rattle.fields.specs.Monitor.{roleOk, statesOk, bytesMost}
-use Rattle.sheet.specs.Monitor.{monitorOk, monitorAt, takeMonitor}
+use Rattle.fields.specs.Monitor.{roleOk, statesOk, bytesMost, monitorOk}
+use Rattle.sheet.specs.Monitor.{monitorAt, takeMonitor}
 use Rattle.sheet.specs.Reader.{takeRecord, onFound, readRecords, firstFound, reading}
 use Rattle.sheet.specs.Refusals.{headNumber, monitorNumber, recordsNumber, sheetNumber}
 use Rattle.sheet.specs.Where.{automaton, decoded}

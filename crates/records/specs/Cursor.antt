@@ -66,9 +66,9 @@ pub record Finds (s : List ℕ) (at : ℕ) (r : Found) : Type 0 where
 
 -- where a record lies: its parts are read where they stand, and its body ends within the bytes
 pub record Lies (s : List ℕ) (at kind start size : ℕ) (next : Cursor) : Type 0 where
-  pub is-kind : kind ≡ u16At s (at + 2)
-  pub is-start : start ≡ at + 4
-  pub is-size : size ≡ u16At s at
+  pub is-kind : kind ≡ kindAt s at
+  pub is-start : start ≡ bodyAt at
+  pub is-size : size ≡ sizeAt s at
   pub is-next : next .at ≡ start + size
   pub inside : next .at ≤ length s
 

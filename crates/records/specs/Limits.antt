@@ -1,13 +1,12 @@
 -- The sizes that the formats share, each said once, and the bounds on lines and horizon (document 01, 'Sheet and tables').
 -- Assumes nothing.
-use mathlib.Core.Path.{_≡_, sym, _∙_}
+use mathlib.Core.Path.{_≡_}
 use mathlib.Core.Bool.{Bool, true, _&&_, _||_}
-use Prim.Native.Nat.{ℕ, _+_, _*_, _^_, _≤_}
+use Prim.Native.Nat.{ℕ, _+_, _*_, _≤_}
 use native.Mathlib.Omega.{arith}
 use lib.Dec.{leb, eqb}
-use lib.Pow.{pow-mono}
-use borrow.Author.Tests.{leb-true, ne-eqb, eqb-true}
-use Rattle.records.specs.Tests.{and-left, and-right, or-not, or-cases}
+use borrow.Author.Tests.{leb-true, ne-eqb}
+use Rattle.records.specs.Tests.{and-left, and-right, or-not}
 
 -- product states, and so the states of a table
 abbrev pub maxStates : ℕ

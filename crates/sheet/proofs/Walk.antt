@@ -1,13 +1,13 @@
 -- The walk over the records after the head: its invariant, one record at a time, and what ends it.
 -- Assumes nothing.
-use mathlib.Core.Path.{_≡_, refl, sym, ap, _∙_}
+use mathlib.Core.Path.{_≡_, refl, sym, _∙_}
 use mathlib.Core.Bool.{Bool, true, false, cond}
 use mathlib.Core.List.{List}
 use Prim.Native.Nat.{ℕ, zero, suc, _+_, _-_, _≤_, _<_}
 use native.Mathlib.Omega.{arith}
 use lib.Dec.{leb, eqb}
 use lib.ListN.{length}
-use Rattle.records.specs.Cursor.{readAt, Lies, lies}
+use Rattle.records.specs.Cursor.{readAt, lies}
 use Rattle.records.specs.Limits.{maxLines, maxMonitors, horizonOk}
 use Rattle.records.specs.declared.cursor.Cursor.{Cursor}
 use Rattle.records.specs.declared.cursor.Found.{Found}
@@ -16,15 +16,16 @@ use Rattle.sheet.specs.Decoded.{inputsOf}
 use Rattle.sheet.specs.Layout.{withMonitor, accepted, refused}
 use Rattle.fields.specs.Places.{modeAt, siteAt, outputsAt, horizonAt}
 use Rattle.fields.specs.Head.{headOk}
+use Rattle.fields.specs.Monitor.{monitorOk}
 use Rattle.sheet.specs.Head.{headSheet, readHead}
-use Rattle.sheet.specs.Monitor.{monitorOk, monitorAt, takeMonitor}
+use Rattle.sheet.specs.Monitor.{monitorAt, takeMonitor}
 use Rattle.sheet.specs.Reader.{takeRecord, onFound, readRecords}
 use Rattle.sheet.specs.declared.layout.Sheet.{Sheet}
 use Rattle.sheet.specs.declared.layout.Refusal.{Refusal}
 use Rattle.sheet.specs.declared.layout.Refusal.the-variants.{Truncated, Misplaced, BadHead, BadMonitor, SeventhMonitor, LongHorizon}
 use Rattle.sheet.specs.declared.layout.Verdict.the-variants.{Accepted, Refused}
 use Rattle.sheet.specs.declared.layout.Reading.{Reading}
-use Rattle.fields.specs.Facts.{Numbers, head-facts}
+use Rattle.fields.specs.Facts.{head-facts}
 
 -- the lines that monitors read: site lines and outputs
 abbrev pub lines : Sheet → ℕ

@@ -9,16 +9,17 @@ use lib.Dec.{eqb}
 use lib.ListN.{length}
 use borrow.Author.Tests.{le-leb, lt-leb, lt-ltb, le-ltb}
 use Rattle.records.specs.Tests.{by-test}
-use Rattle.records.specs.Cursor.{readAt, sizeAt, kindAt, bodyAt, endAt, read-cases}
+use Rattle.records.specs.Cursor.{sizeAt, kindAt, bodyAt, endAt, read-cases}
 use Rattle.records.specs.Limits.{maxMonitors, horizonOk}
 use Rattle.fields.specs.Places.{modeAt, siteAt, outputsAt, horizonAt}
 use Rattle.fields.specs.Lines.{inputsOf}
 use Rattle.fields.specs.Head.{headOk}
+use Rattle.fields.specs.Monitor.{monitorOk}
 use Rattle.sheet.specs.Layout.{accepted, refused, verdictNumber, withMonitor}
 use Rattle.sheet.specs.Head.{headSheet, readHead}
-use Rattle.sheet.specs.Monitor.{monitorOk, monitorAt, takeMonitor}
+use Rattle.sheet.specs.Monitor.{monitorAt, takeMonitor}
 use Rattle.sheet.specs.Reader.{after, takeRecord, onFound, readRecords, firstFound, reading}
-use Rattle.sheet.specs.Refusals.{unless, orElse, headNumber, monitorNumber, laterNumber, recordsNumber, sheetNumber}
+use Rattle.sheet.specs.Refusals.{unless, firstNumber, headNumber, monitorNumber, laterNumber, recordsNumber, sheetNumber}
 use Rattle.sheet.specs.declared.layout.Monitor.{Monitor}
 use Rattle.sheet.specs.declared.layout.Sheet.{Sheet}
 use Rattle.sheet.specs.declared.layout.Refusal.the-variants.{Misplaced, BadHead, BadMonitor, SeventhMonitor, LongHorizon}
@@ -64,7 +65,7 @@ body-number s head room h start size u = rw (u .mode, u .site, u .outputs)
 -- with room for one: if accepted, the layout has it, and the next record is read
 take-one : (s : List ℕ) (head room : ℕ) (h : Sheet) (kind start size : ℕ) (next : Sheet → Reading) → Under s head (suc room) h
     → chained (takeRecord s h kind start size) next
-    ≡ unless (eqb kind 2) 2 (orElse (monitorNumber s head start size) (verdictNumber (next (withMonitor h (monitorAt s start)) .verdict)))
+    ≡ unless (eqb kind 2) 2 (firstNumber (monitorNumber s head start size) (verdictNumber (next (withMonitor h (monitorAt s start)) .verdict)))
 unfolding takeRecord takeMonitor
 take-one s head room h kind start size next u =
     rw (lt-leb maxMonitors (h .count) (omega (arith, u .count)), body-number s head (suc room) h start size u)
@@ -72,7 +73,7 @@ take-one s head room h kind start size next u =
   where
     go : (a b : Bool)
         → chained (cond a (cond b (accepted (withMonitor h (monitorAt s start))) (refused BadMonitor)) (refused Misplaced)) next
-        ≡ unless a 2 (orElse (unless b 4 0) (verdictNumber (next (withMonitor h (monitorAt s start)) .verdict)))
+        ≡ unless a 2 (firstNumber (unless b 4 0) (verdictNumber (next (withMonitor h (monitorAt s start)) .verdict)))
     go true true = refl
     go true false = refl
     go false b = refl
@@ -100,7 +101,7 @@ records-number (suc n) zero s head h at u l =
     (λ m. take-none s head h (kindAt s at) (bodyAt at) (sizeAt s at) (λ h′. readRecords n s h′ (endAt s at)) u)
 records-number (suc n) (suc room) s head h at u l =
     let grown : Sheet = withMonitor h (monitorAt s (bodyAt at)) in
-    read-later n s h at (orElse (monitorNumber s head (bodyAt at) (sizeAt s at)) (recordsNumber room s head (endAt s at)))
+    read-later n s h at (firstNumber (monitorNumber s head (bodyAt at) (sizeAt s at)) (recordsNumber room s head (endAt s at)))
     (λ m.
     let more : verdictNumber (readRecords n s grown (endAt s at) .verdict) ≡ recordsNumber room s head (endAt s at) =
     records-number n room s head grown (endAt s at) (under-more u (monitorAt s (bodyAt at))) (omega arith) in
@@ -111,14 +112,14 @@ records-number (suc n) (suc room) s head h at u l =
 -- an accepted one gives its layout
 head-number : (s : List ℕ) (start size : ℕ) (next : Sheet → Reading)
     → chained (readHead s start size) next
-    ≡ orElse (headNumber s start size) (verdictNumber (next (headSheet s start) .verdict))
+    ≡ firstNumber (headNumber s start size) (verdictNumber (next (headSheet s start) .verdict))
 unfolding readHead headNumber
 head-number s start size next =
     go (headOk s start size) (horizonOk (inputsOf (modeAt s start) (siteAt s start) (outputsAt s start)) (horizonAt s start))
   where
     go : (a b : Bool)
         → chained (cond a (cond b (accepted (headSheet s start)) (refused LongHorizon)) (refused BadHead)) next
-        ≡ orElse (unless a 3 (unless b 6 0)) (verdictNumber (next (headSheet s start) .verdict))
+        ≡ firstNumber (unless a 3 (unless b 6 0)) (verdictNumber (next (headSheet s start) .verdict))
     go true true = refl
     go true false = refl
     go false b = refl

@@ -21,6 +21,7 @@ use Rattle.sheet.specs.Layout.{verdictNumber}
 use Rattle.sheet.specs.Where.{automaton, placed, decoded}
 use Rattle.fields.specs.Places.{modeAt, siteAt, outputsAt, horizonAt, matchingAt, literalsFrom}
 use Rattle.fields.specs.Head.{headOk}
+use Rattle.fields.specs.Facts.{site-le}
 use Rattle.sheet.specs.Head.{headSheet}
 use Rattle.sheet.specs.Reader.{reading}
 use Rattle.sheet.specs.Turns.{offset, upto, Turn, Chain, chain-reads, placed-at}
@@ -235,17 +236,13 @@ decode-encode d o = rw (chain-reads (encode d) (length (d .monitors)) (chain d o
 
 -- ---- they are bytes
 
-site-inputs : (mode site outputs : ℕ) → site ≤ inputsOf mode site outputs
-unfolding inputsOf
-site-inputs m i o = by-test (eqb m 1) (λ e. rw e (omega arith)) (λ e. rw e (omega arith))
-
 -- a monitor reads at most 64 letters
 letters-most : (d : Decoded) → HeadOk d → (a : Automaton) → letters d a ≤ 64
 unfolding lettersOf
 letters-most d o a =
     by-test (eqb (a .role) 2) (λ e. rw e (omega arith))
     (λ e.
-    let most : d .site + d .outputs ≤ maxLines = omega (arith, site-inputs (d .mode) (d .site) (d .outputs), o .lines) in
+    let most : d .site + d .outputs ≤ maxLines = omega (arith, site-le (d .mode) (d .site) (d .outputs), o .lines) in
     rw e (pow-mono most))
 
 bytes-head : (d : Decoded) → HeadOk d → HorizonOk d → Bytes (encodeHead d)

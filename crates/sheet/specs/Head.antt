@@ -10,7 +10,6 @@ use Rattle.fields.specs.Lines.{inputsOf}
 use Rattle.fields.specs.Head.{headOk, literalAt}
 use Rattle.sheet.specs.Layout.{noMonitor, accepted, refused}
 use Rattle.sheet.specs.declared.layout.Sheet.{Sheet}
-use Rattle.sheet.specs.declared.layout.Refusal.{Refusal}
 use Rattle.sheet.specs.declared.layout.Refusal.the-variants.{BadHead, LongHorizon}
 use Rattle.sheet.specs.declared.layout.Reading.{Reading}
 

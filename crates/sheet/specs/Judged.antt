@@ -15,8 +15,7 @@ use Rattle.records.specs.Limits.{maxInputs, maxOutputs, maxLines, maxMonitorSta
 use Rattle.sheet.specs.Decoded.{inputsOf, lettersOf}
 use Rattle.fields.specs.Places.{headNumbers, modeAt, siteAt, outputsAt, matchingAt, literalsFrom, monitorNumbers, roleAt, weightAt, statesAt, firstAt, acceptFrom, rowsFrom}
 use Rattle.fields.specs.Head.{siteOk, freshLine, literalOk, literalsOk, numbersOk, headOk}
-use Rattle.fields.specs.Monitor.{roleOk, statesOk, bytesMost}
-use Rattle.sheet.specs.Monitor.{monitorOk}
+use Rattle.fields.specs.Monitor.{roleOk, statesOk, bytesMost, monitorOk}
 
 -- ---- the head
 

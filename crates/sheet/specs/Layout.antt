@@ -1,7 +1,6 @@
 -- What the reader answers: a sheet's numbers and where its monitors lie, or a refusal with document 01's number.
 -- Assumes nothing.
 use mathlib.Core.Path.{_≡_, refl}
-use mathlib.Core.List.{List, [], _∷_}
 use Prim.Native.Nat.{ℕ, suc, _+_}
 use lib.ListN.{set, replicate}
 use Rattle.records.specs.Limits.{maxOutputs, maxMonitors}

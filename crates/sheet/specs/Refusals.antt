@@ -11,16 +11,16 @@ use Rattle.records.specs.Limits.{maxMonitors, horizonOk}
 use Rattle.fields.specs.Places.{modeAt, siteAt, outputsAt, horizonAt}
 use Rattle.fields.specs.Lines.{inputsOf}
 use Rattle.fields.specs.Head.{headOk}
-use Rattle.sheet.specs.Monitor.{monitorOk}
+use Rattle.fields.specs.Monitor.{monitorOk}
 
 -- the ground's number where its test is not passed, else what is due after it
 abbrev pub unless : Bool → ℕ → ℕ → ℕ
 unless passed ground later = cond passed later ground
 
 -- the number, or what is due after it
-abbrev pub orElse : ℕ → ℕ → ℕ
-orElse zero later = later
-orElse (suc n) later = suc n
+abbrev pub firstNumber : ℕ → ℕ → ℕ
+firstNumber zero later = later
+firstNumber (suc n) later = suc n
 
 -- ---- the body of a record
 
@@ -45,7 +45,7 @@ abbrev pub laterNumber : List ℕ → ℕ → ℕ → ℕ
 laterNumber s at monitor =
     cond (leb (length s) at) 0
     -- 1: 1 to 3 bytes left for a record, or its body runs past the end
-    (orElse (foundNumber (readAt s at))
+    (firstNumber (foundNumber (readAt s at))
     -- 2: a second head, unknown kind
     (unless (eqb (kindAt s at) 2) 2 monitor))
 
@@ -55,15 +55,15 @@ unfoldable pub recordsNumber : ℕ → List ℕ → ℕ → ℕ → ℕ
 recordsNumber zero s head at = laterNumber s at 5
 -- 4, then the records after this one
 recordsNumber (suc room) s head at =
-    laterNumber s at (orElse (monitorNumber s head (bodyAt at) (sizeAt s at)) (recordsNumber room s head (endAt s at)))
+    laterNumber s at (firstNumber (monitorNumber s head (bodyAt at) (sizeAt s at)) (recordsNumber room s head (endAt s at)))
 
 -- the whole sheet
 unfoldable pub sheetNumber : List ℕ → ℕ
 sheetNumber s =
-    -- 1: as above
-    orElse (foundNumber (readAt s 0))
+    -- 1: 1 to 3 bytes left for a record, or its body runs past the end
+    firstNumber (foundNumber (readAt s 0))
     -- 2: no record, first not a head
     (unless (ltb 0 (length s)) 2
     (unless (eqb (kindAt s 0) 1) 2
     -- 3, then 6, then the records after the head
-    (orElse (headNumber s (bodyAt 0) (sizeAt s 0)) (recordsNumber maxMonitors s (bodyAt 0) (endAt s 0)))))
+    (firstNumber (headNumber s (bodyAt 0) (sizeAt s 0)) (recordsNumber maxMonitors s (bodyAt 0) (endAt s 0)))))

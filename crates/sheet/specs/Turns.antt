@@ -9,7 +9,7 @@ use native.Mathlib.Nat.{zero-add, add-zero, add-suc}
 use native.Mathlib.Numerals.{add-one}
 use native.Mathlib.Omega.{arith}
 use lib.Dec.{eqb, leb}
-use lib.ListN.{length, getD, set, replicate, length-set}
+use lib.ListN.{length, set, replicate, length-set}
 use lib.Seq.{getD-set-same, getD-set-other}
 use borrow.Author.Tests.{eqb-true, leb-false, eq-eqb, lt-leb}
 use Rattle.records.specs.Tests.{by-test}
@@ -21,8 +21,9 @@ use Rattle.sheet.specs.Layout.{noMonitor, accepted, refused, verdictNumb
 use Rattle.sheet.specs.Where.{placed}
 use Rattle.fields.specs.Places.{modeAt, siteAt, outputsAt, horizonAt, matchingAt}
 use Rattle.fields.specs.Head.{headOk}
+use Rattle.fields.specs.Monitor.{monitorOk}
 use Rattle.sheet.specs.Head.{headSheet, readHead}
-use Rattle.sheet.specs.Monitor.{monitorOk, monitorAt, takeMonitor}
+use Rattle.sheet.specs.Monitor.{monitorAt, takeMonitor}
 use Rattle.sheet.specs.Reader.{takeRecord, onFound, readRecords, firstFound, reading}
 use Rattle.sheet.specs.Agree.{chained}
 use Rattle.sheet.specs.declared.layout.Monitor.{Monitor}

@@ -15,7 +15,8 @@ use Rattle.records.specs.Cursor.{sizeAt, kindAt, bodyAt}
 use Rattle.fields.specs.Places.{roleAt, weightAt, statesAt, firstAt}
 use Rattle.sheet.specs.Decoded.{Automaton, Decoded, letters, lettersOf, MonitorOk, encodeMonitor}
 use Rattle.sheet.specs.Where.{automaton}
-use Rattle.sheet.specs.Monitor.{monitorOk, monitorAt}
+use Rattle.fields.specs.Monitor.{monitorOk}
+use Rattle.sheet.specs.Monitor.{monitorAt}
 use Rattle.sheet.specs.Judged.{Role, Body, monitor-test}
 use Rattle.sheet.specs.declared.layout.Sheet.{Sheet}
 

@@ -8,7 +8,7 @@ use lib.ListN.{length}
 use lib.Pow.{pow-mono}
 use denote.Ref.{now}
 use Rattle.records.specs.Tests.{said-no, said-yes}
-use Rattle.records.specs.Bounded.{all, all-of, all-fails}
+use Rattle.records.specs.Bounded.{all-of, all-fails}
 use Rattle.records.specs.Limits.{maxInputs}
 use Rattle.records.specs.Layout.{entryAt}
 use Rattle.records.specs.GuardTable.{entry-inside}

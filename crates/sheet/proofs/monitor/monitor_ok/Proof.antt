@@ -10,8 +10,7 @@ use denote.Ref.{now}
 use lib.Dec.{leb}
 use lib.ListN.{getD}
 use Rattle.records.specs.Tests.{cases, said-no, said-yes}
-use Rattle.fields.specs.Monitor.{roleOk, bytesMost}
-use Rattle.sheet.specs.Monitor.{monitorOk}
+use Rattle.fields.specs.Monitor.{roleOk, bytesMost, monitorOk}
 use Rattle.fields.specs.Facts.{States, states-facts}
 use Rattle.sheet.proofs.monitor.monitor_ok.Statement.{statement}
 use Rattle.sheet.proofs.monitor.monitor_ok.Tie as tie
