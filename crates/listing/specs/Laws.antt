@@ -18,7 +18,7 @@ use Rattle.records.specs.Numbers.{Bytes}
 use Rattle.records.specs.Layout.{rowLength, tableLength}
 use Rattle.sheet.specs.Decoded.{Decoded, SheetOk, inputLines}
 use Rattle.sheet.specs.Layout.{groundNumber, some-number}
-use Rattle.sheet.specs.Refusals.{sheetNumber, orElse}
+use Rattle.sheet.specs.Refusals.{sheetNumber, firstNumber}
 use Rattle.sheet.specs.Laws.{reads}
 use Rattle.sheet.specs.declared.layout.Refusal.{Refusal}
 use Rattle.product.specs.Numbered.{stateCount}
@@ -63,7 +63,7 @@ solved : (d : Decoded) → solveNumber d ≡ 0 → (stateCount d ≤ maxStates) 
 unfolding solveNumber
 solved d e = let r = pass (ltb maxStates (stateCount d)) (isIn (droppedOf d) 0) e in (ltb-false maxStates (stateCount d) (r .0), r .1)
 
-both : (m n : ℕ) → orElse m n ≡ 0 → (m ≡ 0) × (n ≡ 0)
+both : (m n : ℕ) → firstNumber m n ≡ 0 → (m ≡ 0) × (n ≡ 0)
 both zero n e = (refl, e)
 both (suc m) n e = absurd (omega arith)
 
@@ -116,7 +116,7 @@ unfolding makingNumber sheetGround
 making-as s bytes = go (sheetNumber s) refl
   where
     go : (n : ℕ) → sheetNumber s ≡ n
-        → orElse n (tableNumber (sheetOf s) (length (guardTableOf (sheetOf s))) tableMost) ≡ orElse n (solveNumber (sheetOf s))
+        → firstNumber n (tableNumber (sheetOf s) (length (guardTableOf (sheetOf s))) tableMost) ≡ firstNumber n (solveNumber (sheetOf s))
     go zero e = number-as (sheetOf s) (length (guardTableOf (sheetOf s))) tableMost (short s bytes e)
     go (suc n) e = refl
 

@@ -9,7 +9,7 @@ use lib.ListN.{length}
 use lib.Seq.{sets}
 use Rattle.records.specs.Limits.{maxStates}
 use Rattle.sheet.specs.Decoded.{Decoded}
-use Rattle.sheet.specs.Refusals.{sheetNumber, orElse}
+use Rattle.sheet.specs.Refusals.{sheetNumber, firstNumber}
 use Rattle.product.specs.Numbered.{stateCount}
 use Rattle.rounds.specs.Rounds.{isIn}
 use Rattle.supervisor.specs.Table.{droppedOf}
@@ -30,7 +30,7 @@ unfoldable pub solveNumber : Decoded → ℕ
 solveNumber d = cond (ltb maxStates (stateCount d)) 7 (cond (isIn (droppedOf d) 0) 0 8)
 
 unfoldable pub sheetGround : List ℕ → ℕ
-sheetGround s = orElse (sheetNumber s) (solveNumber (sheetOf s))
+sheetGround s = firstNumber (sheetNumber s) (solveNumber (sheetOf s))
 
 -- the listing of its guard, or the line of its refusal
 unfoldable pub guardText : List ℕ → List ℕ

@@ -13,14 +13,14 @@ use Rattle.records.specs.declared.cursor.Found.the-variants.{Record, Truncated,
 use Rattle.fields.specs.Places.{modeAt, siteAt, outputsAt, horizonAt}
 use Rattle.fields.specs.Lines.{inputsOf}
 use Rattle.fields.specs.Head.{headOk}
-use Rattle.sheet.specs.Monitor.{monitorOk}
-use Rattle.sheet.specs.Refusals.{unless, orElse, headNumber, monitorNumber, laterNumber, recordsNumber, sheetNumber}
+use Rattle.fields.specs.Monitor.{monitorOk}
+use Rattle.sheet.specs.Refusals.{unless, firstNumber, headNumber, monitorNumber, laterNumber, recordsNumber, sheetNumber}
 
 either : (b : Bool) (x y : ℕ) → x ≤ 6 → y ≤ 6 → cond b x y ≤ 6
 either true x y h k = h
 either false x y h k = k
 
-firstly : (x y : ℕ) → x ≤ 6 → y ≤ 6 → orElse x y ≤ 6
+firstly : (x y : ℕ) → x ≤ 6 → y ≤ 6 → firstNumber x y ≤ 6
 firstly zero y h k = k
 firstly (suc x) y h k = h
 

@@ -18,7 +18,7 @@ use Rattle.sheet.specs.Decoded.{Decoded, SheetOk, encode}
 use Rattle.sheet.specs.Layout.{groundNumber, verdictNumber, some-number}
 use Rattle.sheet.specs.Where.{decoded}
 use Rattle.sheet.specs.Reader.{reading}
-use Rattle.sheet.specs.Refusals.{sheetNumber, orElse}
+use Rattle.sheet.specs.Refusals.{sheetNumber, firstNumber}
 use Rattle.sheet.specs.Most.{number-most}
 use Rattle.sheet.specs.Promises.{Reads}
 use Rattle.sheet.specs.declared.layout.Refusal.{Refusal}
@@ -166,7 +166,7 @@ module _
         by-test work (λ w. go w (sheetNumber s) refl (answers .number ∙ rw w)) (λ w. short w (answers .number ∙ rw w))
       where
         go : work ≡ true → (n : ℕ) → sheetNumber s ≡ n
-            → madeNumber r ≡ orElse n (tableNumber (sheetOf s) (length (table (sheetOf s))) (length before)) → X
+            → madeNumber r ≡ firstNumber n (tableNumber (sheetOf s) (length (table (sheetOf s))) (length before)) → X
         go w zero e q = judged w e q
         go w (suc n) e q = bad w (λ z. omega arith) (q ∙ sym e)
 

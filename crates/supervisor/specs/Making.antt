@@ -15,7 +15,7 @@ use Rattle.sheet.specs.Decoded.{Decoded}
 use Rattle.sheet.specs.Layout.{groundNumber}
 use Rattle.sheet.specs.Where.{decoded}
 use Rattle.sheet.specs.Reader.{reading}
-use Rattle.sheet.specs.Refusals.{sheetNumber, orElse}
+use Rattle.sheet.specs.Refusals.{sheetNumber, firstNumber}
 use Rattle.product.specs.Numbered.{stateCount}
 use Rattle.rounds.specs.Rounds.{isIn}
 use Rattle.supervisor.specs.Meaning.{TooMany, Unrealizable, IsSheet, Accepted}
@@ -51,7 +51,7 @@ tableNumber d size room =
 -- 10, then the sheet's, then those of its table
 unfoldable pub makingNumber : (Decoded → List ℕ) → Bool → List ℕ → ℕ → ℕ
 makingNumber table work s room =
-    cond work (orElse (sheetNumber s) (tableNumber (sheetOf s) (length (table (sheetOf s))) room)) 10
+    cond work (firstNumber (sheetNumber s) (tableNumber (sheetOf s) (length (table (sheetOf s))) room)) 10
 
 -- for a sheet in bounds: the answer and the result by the model
 pub record Judges (table : Decoded → List ℕ) (stateCounts : Decoded → ℕ) (d : Decoded) (before : List ℕ) (r : Made) (after : List ℕ) : Type 0 where
