@@ -3,15 +3,15 @@
 use mathlib.Core.Path.{_≡_, refl}
 use mathlib.Core.List.{List, [], _∷_}
 use Prim.Native.Nat.{ℕ, _-_}
-use Rattle.records.specs.Bounded.{all}
-use Rattle.records.specs.Numbers.{u16At}
-use Rattle.records.specs.Limits.{linesOk, horizonOk}
-use Rattle.records.specs.Layout.{rowLength, tableLength, entryAt, headerIs}
-use Rattle.records.specs.GuardTable.{rowAt}
-use Rattle.board.specs.Board.{countsOk, live, emptyBoard, runAt}
-use Rattle.tables.specs.Loadable.{sizeOk, fieldsOk, headOk, entryOk, entriesOk, rowOk, rowsOk, loadable}
-use Rattle.board.specs.Load.{boardOf, loadOn, loadNumber}
-use Rattle.board.specs.Step.{proposal, deviates, outputAt, nextAt, entryFits, moved, lookedUp, stepOn, stepNumber}
+use Rattle.records.specs.Meaning.Bounded.{all}
+use Rattle.records.specs.Meaning.Numbers.{u16At}
+use Rattle.records.specs.Meaning.Limits.{linesOk, horizonOk}
+use Rattle.records.specs.Meaning.GuardTable.{rowLength, tableLength, entryAt, headerIs}
+use Rattle.records.specs.Meaning.GuardTable.{rowAt}
+use Rattle.board.specs.Meaning.Board.{countsOk, live, emptyBoard, runAt}
+use Rattle.tables.specs.Meaning.Loadable.{sizeOk, fieldsOk, headOk, entryOk, entriesOk, rowOk, rowsOk, loadable}
+use Rattle.board.specs.Meaning.Load.{boardOf, loadOn, loadNumber}
+use Rattle.board.specs.Meaning.Step.{proposal, deviates, outputAt, nextAt, entryFits, moved, lookedUp, stepOn, stepNumber}
 
 -- one state, always off
 abbrev off : List ℕ

@@ -5,16 +5,16 @@ use mathlib.Core.Bool.{Bool, true, false, cond}
 use mathlib.Core.List.{List}
 use Prim.Native.Nat.{ℕ, _^_}
 use lib.Dec.{leb, ltb, eqb}
-use Rattle.records.specs.Tests.{by-test}
-use Rattle.records.specs.Limits.{maxSteps}
-use Rattle.board.specs.Board.{live, emptyBoard, rewindOn, unloadOn, changeNumber, changeRefusal}
-use Rattle.tables.specs.Loadable.{loadable}
-use Rattle.board.specs.Load.{loadOn, loadNumber, loadRefusal}
-use Rattle.board.specs.Step.{outputAt, entryFits, moved, lookedUp, stepOn, stepNumber, stepOutput, stepRefusal, stepGiven}
-use Rattle.board.specs.History.{load, step, rewind, unload}
-use Rattle.board.specs.Laws.{empty-board}
-use Rattle.board.specs.Counting.{counted, keeps-count}
-use Rattle.board.specs.Promises.{EmptyPromise, LoadPromise, StepPromise, RewindPromise, UnloadPromise}
+use Rattle.records.specs.Laws.Tests.{by-test}
+use Rattle.records.specs.Meaning.Limits.{maxSteps}
+use Rattle.board.specs.Meaning.Board.{live, emptyBoard, rewindOn, unloadOn, changeNumber, changeRefusal}
+use Rattle.tables.specs.Meaning.Loadable.{loadable}
+use Rattle.board.specs.Meaning.Load.{loadOn, loadNumber, loadRefusal}
+use Rattle.board.specs.Meaning.Step.{outputAt, entryFits, moved, lookedUp, stepOn, stepNumber, stepOutput, stepRefusal, stepGiven}
+use Rattle.board.specs.Meaning.History.{load, step, rewind, unload}
+use Rattle.board.specs.Laws.Calls.{empty-board}
+use Rattle.board.specs.Laws.Counting.{counted, keeps-count}
+use Rattle.board.specs.Promises.Board.{EmptyPromise, LoadPromise, StepPromise, RewindPromise, UnloadPromise}
 use Rattle.board.specs.declared.Board.{Board}
 use Rattle.board.specs.declared.answers.Loading.{Loading}
 use Rattle.board.specs.declared.answers.Stepping.{Stepping}

@@ -16,11 +16,11 @@ ghost use mathlib.Core.Path.{_≡_};
 ghost use mathlib.Core.Bool.{true};
 ghost use Prim.Native.Nat.{_^_, _<_, _≤_};
 ghost use lib.ListN.{length};
-ghost use Rattle.records.specs.Limits.{linesOk};
-ghost use Rattle.board.specs.Board.{countsOk, live, runAt};
-ghost use Rattle.board.specs.Load.{boardOf};
-ghost use Rattle.board.specs.Step.{deviates, moved, lookedUp};
-ghost use Rattle.board.specs.Promises.{EmptyPromise, LoadPromise, StepPromise, RewindPromise, UnloadPromise};
+ghost use Rattle.records.specs.Meaning.Limits.{linesOk};
+ghost use Rattle.board.specs.Meaning.Board.{countsOk, live, runAt};
+ghost use Rattle.board.specs.Meaning.Load.{boardOf};
+ghost use Rattle.board.specs.Meaning.Step.{deviates, moved, lookedUp};
+ghost use Rattle.board.specs.Promises.Board.{EmptyPromise, LoadPromise, StepPromise, RewindPromise, UnloadPromise};
 
 pub mod answers;
 

@@ -5,16 +5,16 @@ use mathlib.Core.Path.{_≡_, subst}
 use mathlib.Core.List.{List}
 use Prim.Native.Nat.{ℕ}
 use borrow.Author.Tests.{eq-eqb, ne-eqb}
-use Rattle.board.specs.Board.{changeNumber}
-use Rattle.board.specs.Load.{loadNumber}
-use Rattle.board.specs.Step.{stepNumber}
-use Rattle.board.specs.Promises.{LoadPromise, StepPromise}
+use Rattle.board.specs.Meaning.Board.{changeNumber}
+use Rattle.board.specs.Meaning.Load.{loadNumber}
+use Rattle.board.specs.Meaning.Step.{stepNumber}
+use Rattle.board.specs.Promises.Board.{LoadPromise, StepPromise}
 use Rattle.board.specs.declared.Board.{Board}
 use Rattle.board.specs.declared.answers.Loading.{Loading}
 use Rattle.board.specs.declared.answers.Stepping.{Stepping}
 use Rattle.board.specs.declared.answers.Changing.{Changing}
-use Rattle.bytes.specs.Layout.{boardIn, boardBytes}
-use Rattle.bytes.specs.Promises.{bytesAfter, stepAnswer, Loads, Steps, Changes}
+use Rattle.bytes.specs.Meaning.Board.{boardIn, boardBytes}
+use Rattle.bytes.specs.Promises.Calls.{bytesAfter, stepAnswer, Loads, Steps, Changes}
 
 -- the two ways of a test on the number
 pub written : (before : List ℕ) (n : ℕ) (b : Board) (after : List ℕ) → n ≡ 0 → after ≡ boardBytes b → after ≡ bytesAfter before n b

@@ -7,8 +7,8 @@ use crate::numbers::step_answer;
 use crate::numbers::step_number;
 ghost use mathlib.Core.Path.{_≡_};
 ghost use lib.ListN.{length};
-ghost use Rattle.bytes.specs.Layout.{boardLength};
-ghost use Rattle.bytes.specs.Promises.{Loads, Steps, Rewinds, Unloads};
+ghost use Rattle.bytes.specs.Meaning.Board.{boardLength};
+ghost use Rattle.bytes.specs.Promises.Calls.{Loads, Steps, Rewinds, Unloads};
 
 pub mod layout;
 pub mod numbers;

@@ -7,11 +7,11 @@ ghost use mathlib.Core.Path.{_≡_};
 ghost use Prim.Native.Nat.{_≤_};
 ghost use lib.ListN.{length};
 ghost use lib.Seq.{sets};
-ghost use Rattle.board.specs.Board.{changeNumber};
-ghost use Rattle.board.specs.Load.{loadNumber};
-ghost use Rattle.board.specs.Step.{stepNumber};
-ghost use Rattle.supervisor.specs.Making.{madeNumber, madeLength, madeStates};
-ghost use Rattle.bytes.specs.Promises.{stepAnswer, figuresOf};
+ghost use Rattle.board.specs.Meaning.Board.{changeNumber};
+ghost use Rattle.board.specs.Meaning.Load.{loadNumber};
+ghost use Rattle.board.specs.Meaning.Step.{stepNumber};
+ghost use Rattle.supervisor.specs.Meaning.Made.{madeNumber, madeLength, madeStates};
+ghost use Rattle.bytes.specs.Promises.Calls.{stepAnswer, figuresOf};
 
 pub fn load_number(answer: Load) -> u32
     ensures { λ r. ⌜ r ≡ loadNumber answer ⌝ }

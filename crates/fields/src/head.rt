@@ -5,10 +5,11 @@ use records::limits::lines_ok;
 ghost use mathlib.Core.Path.{_≡_};
 ghost use Prim.Native.Nat.{_+_, _<_, _≤_};
 ghost use lib.ListN.{length};
-ghost use Rattle.records.specs.Limits.{maxInputs, maxOutputs};
-ghost use Rattle.fields.specs.Places.{literalsFrom};
-ghost use Rattle.fields.specs.Lines.{inputsOf};
-ghost use Rattle.fields.specs.Head.{siteOk, freshLine, literalOk, literalsOk, numbersOk, headOk, literalAt};
+ghost use Rattle.records.specs.Meaning.Limits.{maxInputs, maxOutputs};
+ghost use Rattle.fields.specs.Meaning.Places.{literalsFrom};
+ghost use Rattle.fields.specs.Meaning.Lines.{inputsOf};
+ghost use Rattle.fields.specs.Meaning.Head.{siteOk, freshLine, literalOk, literalsOk, numbersOk, headOk};
+ghost use Rattle.fields.specs.Model.Head.{literalAt};
 
 // The guard's input lines: in mode 1 the proposal's lines come on top of the site's.
 pub fn inputs_of(mode: u8, site: u8, outputs: u8) -> u8

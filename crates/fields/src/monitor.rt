@@ -5,9 +5,9 @@ use records::numbers::pow2;
 ghost use mathlib.Core.Path.{_≡_};
 ghost use Prim.Native.Nat.{_+_, _≤_};
 ghost use lib.ListN.{length};
-ghost use Rattle.records.specs.Limits.{maxLines};
-ghost use Rattle.fields.specs.Lines.{lettersOf};
-ghost use Rattle.fields.specs.Monitor.{roleOk, statesOk, bytesMost};
+ghost use Rattle.records.specs.Meaning.Limits.{maxLines};
+ghost use Rattle.fields.specs.Meaning.Lines.{lettersOf};
+ghost use Rattle.fields.specs.Meaning.Monitor.{roleOk, statesOk, bytesMost};
 
 // Whether role and weight are in order: hard with no weight, soft with one, a limit in mode 1 with none.
 pub fn role_ok(mode: u8, role: u8, weight: u8) -> bool

@@ -6,9 +6,9 @@ use records::clear::clear64;
 use supervisor::make::Made;
 ghost use mathlib.Core.Path.{_≡_};
 ghost use lib.ListN.{length};
-ghost use Rattle.records.specs.Numbers.{zeros};
-ghost use Rattle.guard.specs.Promises.{workOk, MakesGuard};
-ghost use Rattle.guard.specs.Lent.{lent};
+ghost use Rattle.records.specs.Meaning.Numbers.{zeros};
+ghost use Rattle.guard.specs.Promises.Guard.{workOk, MakesGuard};
+ghost use Rattle.guard.specs.Model.Lent.{lent};
 
 // The maker: the work memory that it needs.
 pub struct Guard {

@@ -1,3 +1,3 @@
 -- The making of a guard table, work memory aside: what the first judgements leave (Opening), and how answers come about (Judged).
-pub mod Opening
-pub mod Judged
+pub mod Model
+pub mod Laws

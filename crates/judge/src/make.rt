@@ -9,9 +9,9 @@ use sheet::layout::Verdict;
 use supervisor::make::Made;
 ghost use mathlib.Core.Path.{_≡_};
 ghost use mathlib.Core.Bool.{true};
-ghost use Rattle.supervisor.specs.Making.{Answers};
-ghost use Rattle.plan.specs.Table.{guardTableOf, statesOf};
-ghost use Rattle.plan.specs.Planned.{Room};
+ghost use Rattle.supervisor.specs.Model.Making.{Answers};
+ghost use Rattle.plan.specs.Model.Table.{guardTableOf, statesOf};
+ghost use Rattle.plan.specs.Model.Planned.{Room};
 
 // The first judgements, then the guard over the sheet's horizon, then 9, and the result is written only then. `ok` says that the
 // work memory is long enough.

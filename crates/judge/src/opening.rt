@@ -9,7 +9,7 @@ ghost use mathlib.Core.Path.{_≡_};
 ghost use mathlib.Core.Bool.{true};
 ghost use Prim.Native.Nat.{_≤_};
 ghost use lib.ListN.{length};
-ghost use Rattle.judge.specs.Opening.{Opens};
+ghost use Rattle.judge.specs.Model.Opening.{Opens};
 
 // A verdict, and where it accepts, the sheet and the number of its product states.
 pub struct Opening {

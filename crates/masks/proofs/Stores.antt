@@ -7,9 +7,9 @@ use native.Mathlib.Nat.{mul-le-mul-right, suc-mul}
 use native.Mathlib.Omega.{arith}
 use lib.ListN.{set}
 use lib.Seq.{sets}
-use Rattle.records.specs.Lists.{sets-append}
-use Rattle.records.specs.Cursor.{header}
-use Rattle.masks.specs.Rows.{rowLength, tableLength}
+use Rattle.records.specs.Laws.Lists.{sets-append}
+use Rattle.records.specs.Meaning.Records.{header}
+use Rattle.masks.specs.Model.Rows.{rowLength, tableLength}
 
 -- a record: its header, its first byte, and the rest
 pub whole-record : (before : List ℕ) (at size kind first : ℕ) (rest : List ℕ) {now next : List ℕ}

@@ -1,3 +1,4 @@
 -- The bytes of a supervisor table: their format, and the rows that the rounds give.
-pub mod Layout
-pub mod Rows
+pub mod Meaning
+pub mod Model
+pub mod Laws

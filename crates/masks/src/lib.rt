@@ -8,11 +8,11 @@ ghost use mathlib.Core.List.{List, [], _∷_, _++_};
 ghost use Prim.Native.Nat.{_+_, _*_, _≤_, _<_};
 ghost use lib.ListN.{length};
 ghost use lib.Seq.{sets};
-ghost use Rattle.records.specs.Lists.{tab, cat};
-ghost use Rattle.records.specs.Numbers.{u16Bytes};
-ghost use Rattle.records.specs.Cursor.{header};
-ghost use Rattle.rounds.specs.Rounds.{Steps, maskOf};
-ghost use Rattle.masks.specs.Rows.{keptFlag, rowLength, tableLength, tableRow};
+ghost use Rattle.records.specs.Meaning.Lists.{tab, cat};
+ghost use Rattle.records.specs.Meaning.Numbers.{u16Bytes};
+ghost use Rattle.records.specs.Meaning.Records.{header};
+ghost use Rattle.rounds.specs.Model.Rounds.{Steps, maskOf};
+ghost use Rattle.masks.specs.Model.Rows.{keptFlag, rowLength, tableLength, tableRow};
 
 // The bytes of a row's record.
 pub fn row_length(inputs: usize) -> usize

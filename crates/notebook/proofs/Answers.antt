@@ -7,17 +7,17 @@ use Prim.Native.Nat.{ℕ, _≤_}
 use lib.ListN.{length, take, length-replicate}
 use native.Mathlib.Omega.{arith}
 use lib.Seq.{sets, length-sets, take-append-seam}
-use Rattle.records.specs.Lists.{sets-front}
-use Rattle.records.specs.Numbers.{zeros}
-use Rattle.product.specs.Numbered.{stateCount}
-use Rattle.supervisor.specs.Table.{supervisorTable}
-use Rattle.supervisor.specs.Promises.{workOk, MakesSupervisor}
+use Rattle.records.specs.Laws.Lists.{sets-front}
+use Rattle.records.specs.Meaning.Numbers.{zeros}
+use Rattle.product.specs.Model.Numbered.{stateCount}
+use Rattle.supervisor.specs.Model.Table.{supervisorTable}
+use Rattle.supervisor.specs.Promises.Supervisor.{workOk, MakesSupervisor}
 use Rattle.supervisor.specs.declared.make.Made.{Made}
-use Rattle.guard.specs.Table.{guardTableOf}
-use Rattle.guard.specs.Promises as guard
-use Rattle.guard.specs.Promises.{guardStates, Work, MakesGuard}
-use Rattle.guard.specs.Lent.{lent}
-use Rattle.notebook.specs.Counters.{sheetBytes, length-sheet, Answered}
+use Rattle.guard.specs.Model.Table.{guardTableOf}
+use Rattle.guard.specs.Promises.Guard as guard
+use Rattle.guard.specs.Promises.Guard.{guardStates, Work, MakesGuard}
+use Rattle.guard.specs.Model.Lent.{lent}
+use Rattle.notebook.specs.Model.Counters.{sheetBytes, length-sheet, Answered}
 
 -- a new array's length
 pub zeros-length : (n : ℕ) → length (zeros n) ≡ n

@@ -3,7 +3,7 @@ ghost use mathlib.Core.Path.{_≡_};
 ghost use Prim.Native.Nat.{_+_, _*_, _≤_, _<_};
 ghost use lib.ListN.{length};
 ghost use lib.Seq.{sets};
-ghost use Rattle.notebook.specs.Counters.{countOn, headByte, frontByte, counterByte, sheetByte, sheetBytes};
+ghost use Rattle.notebook.specs.Model.Counters.{countOn, headByte, frontByte, counterByte, sheetByte, sheetBytes};
 
 // The state of a counter of n states, in state q, after an output: one further if the line is on. `power` is 2 to the line's
 // number.

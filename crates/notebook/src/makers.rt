@@ -4,11 +4,11 @@ use guard::make::Guard;
 use supervisor::make::Made;
 use supervisor::make::Supervisor;
 ghost use Prim.Native.Nat.{_≤_};
-ghost use Rattle.product.specs.Numbered.{stateCount};
-ghost use Rattle.supervisor.specs.Table.{supervisorTable};
-ghost use Rattle.guard.specs.Table.{guardTableOf};
-ghost use Rattle.guard.specs.Promises.{guardStates};
-ghost use Rattle.notebook.specs.Counters.{sheetBytes, Answered};
+ghost use Rattle.product.specs.Model.Numbered.{stateCount};
+ghost use Rattle.supervisor.specs.Model.Table.{supervisorTable};
+ghost use Rattle.guard.specs.Model.Table.{guardTableOf};
+ghost use Rattle.guard.specs.Promises.Guard.{guardStates};
+ghost use Rattle.notebook.specs.Model.Counters.{sheetBytes, Answered};
 
 fn supervisor_of(sheet: &[u8]) -> Made
     ensures { λ r. ⌜ Answered supervisorTable stateCount (now (sheet .entry)) 2048 r ⌝ }

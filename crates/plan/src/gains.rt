@@ -7,11 +7,12 @@ ghost use mathlib.Core.Path.{_≡_};
 ghost use mathlib.Core.List.{List};
 ghost use Prim.Native.Nat.{ℕ, _*_, _/_, _%_, _≤_, _<_};
 ghost use lib.ListN.{length};
-ghost use Rattle.records.specs.Lists.{put};
-ghost use Rattle.sheet.specs.Where.{Fits, decoded};
-ghost use Rattle.product.specs.Step.{InRange, softReward, weightOf};
-ghost use Rattle.product.specs.States.{tupleAt};
-ghost use Rattle.plan.specs.Table.{bonusOf};
+ghost use Rattle.records.specs.Model.Lists.{put};
+ghost use Rattle.sheet.specs.Model.Where.{Fits, decoded};
+ghost use Rattle.product.specs.Model.Range.{InRange};
+ghost use Rattle.product.specs.Meaning.Step.{softReward, weightOf};
+ghost use Rattle.product.specs.Model.States.{tupleAt};
+ghost use Rattle.plan.specs.Model.Table.{bonusOf};
 
 // The gain of each of the first `n` tuples.
 pub fn fill_gains(s: &[u8], sheet: Sheet, tuples: &[u8], gains: &mut [u16], n: usize)

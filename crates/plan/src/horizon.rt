@@ -8,11 +8,11 @@ use values::values::value_rows;
 ghost use mathlib.Core.Path.{_≡_};
 ghost use mathlib.Core.Bool.{true};
 ghost use Prim.Native.Nat.{_^_};
-ghost use Rattle.records.specs.Limits.{horizonOk};
-ghost use Rattle.sheet.specs.Decoded.{inputLines};
-ghost use Rattle.sheet.specs.Where.{Fits, decoded};
-ghost use Rattle.values.specs.Numbered.{stepsOf};
-ghost use Rattle.plan.specs.Planned.{Room, Playable, Planned};
+ghost use Rattle.records.specs.Meaning.Limits.{horizonOk};
+ghost use Rattle.sheet.specs.Meaning.Decoded.{inputLines};
+ghost use Rattle.sheet.specs.Model.Where.{Fits, decoded};
+ghost use Rattle.values.specs.Model.Numbered.{stepsOf};
+ghost use Rattle.plan.specs.Model.Planned.{Room, Playable, Planned};
 
 // The guard over a horizon, of a solved sheet whose start is kept: what steps earn, what states are worth, what is chosen,
 // and the states that are then met. Answers how many those are.

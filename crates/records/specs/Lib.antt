@@ -1,12 +1,5 @@
 -- What every format and table above shares.
-pub mod Tests
-pub mod Bounded
-pub mod Bits
-pub mod Lists
-pub mod Stores
-pub mod Numbers
-pub mod Cells
-pub mod Cursor
-pub mod Limits
-pub mod Layout
-pub mod GuardTable
+pub mod Meaning
+pub mod Model
+pub mod Promises
+pub mod Laws

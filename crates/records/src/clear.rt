@@ -2,8 +2,8 @@
 ghost use mathlib.Core.Path.{_≡_};
 ghost use Prim.Native.Nat.{_≤_};
 ghost use lib.ListN.{length};
-ghost use Rattle.records.specs.Lists.{put};
-ghost use Rattle.records.specs.Numbers.{zeros};
+ghost use Rattle.records.specs.Model.Lists.{put};
+ghost use Rattle.records.specs.Meaning.Numbers.{zeros};
 
 pub fn clear8(work: &mut [u8])
     ensures { λ _. ⌜ now (work .exit) ≡ zeros (length (now (work .entry))) ⌝ }

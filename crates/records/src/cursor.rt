@@ -5,7 +5,8 @@ ghost use mathlib.Core.Path.{_≡_};
 ghost use Prim.Native.Nat.{_+_, _<_};
 ghost use lib.ListN.{length};
 ghost use lib.Seq.{sets};
-ghost use Rattle.records.specs.Cursor.{Finds, header};
+ghost use Rattle.records.specs.Promises.Cursor.{Finds};
+ghost use Rattle.records.specs.Meaning.Records.{header};
 
 pub struct Cursor {
     pub at: usize,

@@ -2,8 +2,8 @@
 use crate::numbers::pow2;
 ghost use mathlib.Core.Path.{_≡_};
 ghost use Prim.Native.Nat.{_≤_};
-ghost use Rattle.records.specs.Limits.{maxInputs, maxStates};
-ghost use Rattle.records.specs.Layout.{rowLength, tableLength, entryAt};
+ghost use Rattle.records.specs.Meaning.Limits.{maxInputs, maxStates};
+ghost use Rattle.records.specs.Meaning.GuardTable.{rowLength, tableLength, entryAt};
 
 // The guard table's sizes.
 pub struct Layout {

@@ -1,6 +1,6 @@
 // Document 01's bounds by name, and the tests of lines and horizon that sheets, tables and boards share.
 ghost use mathlib.Core.Path.{_≡_};
-ghost use Rattle.records.specs.Limits.{linesOk, horizonOk};
+ghost use Rattle.records.specs.Meaning.Limits.{linesOk, horizonOk};
 
 // The largest numbers that a sheet may have.
 pub struct Limits {}

@@ -3,7 +3,7 @@ ghost use mathlib.Core.Path.{_≡_};
 ghost use Prim.Native.Nat.{_+_, _^_, _<_, _≤_};
 ghost use lib.ListN.{length, getD};
 ghost use lib.Seq.{sets};
-ghost use Rattle.records.specs.Numbers.{u16At, u16Bytes};
+ghost use Rattle.records.specs.Meaning.Numbers.{u16At, u16Bytes};
 
 // The byte at an index, 0 past the end.
 pub fn byte_at(s: &[u8], at: usize) -> u8

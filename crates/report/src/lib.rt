@@ -8,9 +8,9 @@ use text::put_labelled;
 use text::put_listing;
 use text::put_word;
 ghost use mathlib.Core.Bool.{true};
-ghost use Rattle.tables.specs.Loadable.{loadable};
-ghost use Rattle.text.specs.Listing.{listingOf, refusedText, tooLongText};
-ghost use Rattle.report.specs.Promises.{outcomeDue, outcomeText, Writes};
+ghost use Rattle.tables.specs.Meaning.Loadable.{loadable};
+ghost use Rattle.text.specs.Meaning.Listing.{listingOf, refusedText, tooLongText};
+ghost use Rattle.report.specs.Promises.Report.{outcomeDue, outcomeText, Writes};
 
 // What a writer of text answers: the bytes of its text, or why it wrote none.
 pub enum Listed {

@@ -7,8 +7,8 @@ use native.Mathlib.Nat.{one-mul, add-zero}
 use native.Mathlib.Omega.{arith}
 use lib.Dec.{lit<}
 use lib.Pow.{shl-exact, pow-mono}
-use Rattle.records.specs.Bits.{bitsOf, bits-lt}
-use Rattle.records.specs.Bounded.{sum-none, sum-more}
+use Rattle.records.specs.Laws.Bits.{bitsOf, bits-lt}
+use Rattle.records.specs.Laws.Bounded.{sum-none, sum-more}
 
 -- the bits below o are set
 pub record Masking (p : ℕ → Bool) (outputs mask o : ℕ) : Type 0 where

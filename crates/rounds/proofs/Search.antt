@@ -7,8 +7,9 @@ use Prim.Native.Nat.{ℕ, _≤_, _<_}
 use native.Mathlib.Omega.{arith}
 use lib.Dec.{leb}
 use borrow.Author.Tests.{le-leb, lt-leb}
-use Rattle.records.specs.Bounded.{all, any-none, all-fails}
-use Rattle.rounds.specs.Rounds.{cellAt, leadsIn, answered, stays}
+use Rattle.records.specs.Meaning.Bounded.{all}
+use Rattle.records.specs.Laws.Bounded.{any-none, all-fails}
+use Rattle.rounds.specs.Model.Rounds.{cellAt, leadsIn, answered, stays}
 
 module _ (cells dropped : List ℕ) (inputs outputs k : ℕ) where
   -- every input was passed

@@ -6,11 +6,12 @@ use Prim.Native.Nat.{ℕ, zero, suc, _+_, _-_, _≤_, _<_}
 use native.Mathlib.Numerals.{add-one}
 use native.Mathlib.Omega.{arith}
 use lib.ListN.{length, getD}
-use Rattle.records.specs.Bounded.{count-all}
-use Rattle.records.specs.Lists.{put, put-ext, put-self, getD-put-front}
-use Rattle.rounds.specs.Rounds.{round, rounds, keptCount, Settled}
-use Rattle.rounds.specs.InPlace.{Rounded}
-use Rattle.rounds.specs.Laws.{Stable, length-round, length-rounds, in-first, entry-most, fewer, quiet-stable, stable-round, stable-settled}
+use Rattle.records.specs.Laws.Bounded.{count-all}
+use Rattle.records.specs.Model.Lists.{put}
+use Rattle.records.specs.Laws.Lists.{put-ext, put-self, getD-put-front}
+use Rattle.rounds.specs.Model.Rounds.{round, rounds, keptCount, Settled}
+use Rattle.rounds.specs.Model.InPlace.{Rounded}
+use Rattle.rounds.specs.Laws.Rounds.{Stable, length-round, length-rounds, in-first, entry-most, fewer, quiet-stable, stable-round, stable-settled}
 
 -- the rounds from the entries all 0 are the rounds from any memory
 module _ (cells : List ℕ) (n inputs outputs : ℕ) (memory : List ℕ) (room : n ≤ length memory) where

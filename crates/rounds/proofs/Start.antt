@@ -7,11 +7,11 @@ use Prim.Native.Nat.{ℕ, _<_}
 use lib.Dec.{eqb}
 use lib.ListN.{length, getD}
 use borrow.Author.Tests.{eqb-true, eq-eqb, ne-eqb}
-use Rattle.records.specs.Tests.{by-test}
-use Rattle.records.specs.Lists.{put-ext, put-self, getD-put-front}
-use Rattle.records.specs.Cells.{isBroken}
-use Rattle.rounds.specs.Rounds.{isIn, leadsIn}
-use Rattle.rounds.specs.InPlace.{atStart}
+use Rattle.records.specs.Laws.Tests.{by-test}
+use Rattle.records.specs.Laws.Lists.{put-ext, put-self, getD-put-front}
+use Rattle.records.specs.Model.Cells.{isBroken}
+use Rattle.rounds.specs.Model.Rounds.{isIn, leadsIn}
+use Rattle.rounds.specs.Model.InPlace.{atStart}
 
 start-at : (r : ℕ) (d : List ℕ) (k : ℕ) → k < length d
     → getD (atStart r d) k 0 ≡ cond (eqb (getD d k 0) r) 0 (getD d k 0)

@@ -11,12 +11,14 @@ use lib.Dec.{eqb}
 use lib.ListN.{length, getD, set}
 use lib.Seq.{set-getD}
 use borrow.Author.Tests.{ne-eqb}
-use Rattle.records.specs.Tests.{by-test, and-left}
-use Rattle.records.specs.Bounded.{count, count-none, count-more, count-le, count-cong}
-use Rattle.records.specs.Lists.{put, put-none, put-more, length-put, getD-put-front, getD-put-rest}
-use Rattle.rounds.specs.Rounds.{Steps, isIn, stays, entryAfter, round, keptCount}
-use Rattle.rounds.specs.InPlace.{atStart, drops, Rounded}
-use Rattle.rounds.specs.Laws.{stays-cong, round-at}
+use Rattle.records.specs.Laws.Tests.{by-test, and-left}
+use Rattle.records.specs.Meaning.Bounded.{count}
+use Rattle.records.specs.Laws.Bounded.{count-none, count-more, count-le, count-cong}
+use Rattle.records.specs.Model.Lists.{put}
+use Rattle.records.specs.Laws.Lists.{put-none, put-more, length-put, getD-put-front, getD-put-rest}
+use Rattle.rounds.specs.Model.Rounds.{Steps, isIn, stays, entryAfter, round, keptCount}
+use Rattle.rounds.specs.Model.InPlace.{atStart, drops, Rounded}
+use Rattle.rounds.specs.Laws.Rounds.{stays-cong, round-at}
 use Rattle.rounds.proofs.Start.{start-back, start-same}
 
 -- the first k states have their entries after the round, and `lost` of them were dropped

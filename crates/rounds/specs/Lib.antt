@@ -1,8 +1,3 @@
 -- The rounds that drop lost states, over a table of steps.
-pub mod Rounds
-pub mod Cells
-pub mod InPlace
+pub mod Model
 pub mod Laws
-pub mod Masks
-pub mod Agree
-pub mod Examples

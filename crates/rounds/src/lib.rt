@@ -6,10 +6,10 @@ use records::clear::clear_front16;
 ghost use mathlib.Core.Path.{_≡_};
 ghost use Prim.Native.Nat.{ℕ, _<_, _≤_};
 ghost use lib.ListN.{length, getD};
-ghost use Rattle.records.specs.Limits.{maxStates};
-ghost use Rattle.rounds.specs.Rounds.{Steps, cellAt, isIn, leadsIn, stays, maskOf, Settled};
-ghost use Rattle.rounds.specs.Cells.{InRow, Entered, Leads};
-ghost use Rattle.rounds.specs.InPlace.{atStart, drops, Rounded};
+ghost use Rattle.records.specs.Meaning.Limits.{maxStates};
+ghost use Rattle.rounds.specs.Model.Rounds.{Steps, cellAt, isIn, leadsIn, stays, maskOf, Settled};
+ghost use Rattle.rounds.specs.Laws.Cells.{InRow, Entered, Leads};
+ghost use Rattle.rounds.specs.Model.InPlace.{atStart, drops, Rounded};
 
 // Where the cell of a state, an input and an output stands.
 pub fn cell_at(inputs: usize, outputs: usize, k: usize, i: usize, o: usize) -> usize

@@ -8,14 +8,16 @@ use native.Mathlib.Omega.{arith}
 use lib.ListN.{length, set, getD}
 use lib.Pow.{pow-mono}
 use lib.Seq.{sets}
-use Rattle.records.specs.Lists.{cat, sets-append}
-use Rattle.records.specs.Cursor.{header}
-use Rattle.records.specs.Layout.{rowLength, tableLength, guardRow, guardTable}
-use Rattle.records.specs.GuardTable.{rowAt, row-fits}
-use Rattle.records.specs.Numbers.{u16Bytes}
-use Rattle.values.specs.Values.{Game}
-use Rattle.values.specs.Guard.{chosen}
-use Rattle.rows.specs.Entered.{numbered, rowBy, tableBy}
+use Rattle.records.specs.Meaning.Lists.{cat}
+use Rattle.records.specs.Laws.Lists.{sets-append}
+use Rattle.records.specs.Meaning.Records.{header}
+use Rattle.records.specs.Meaning.GuardTable.{rowLength, tableLength, guardRow, guardTable}
+use Rattle.records.specs.Meaning.GuardTable.{rowAt}
+use Rattle.records.specs.Laws.GuardTable.{row-fits}
+use Rattle.records.specs.Meaning.Numbers.{u16Bytes}
+use Rattle.values.specs.Model.Values.{Game}
+use Rattle.values.specs.Model.Guard.{chosen}
+use Rattle.rows.specs.Model.Entered.{numbered, rowBy, tableBy}
 
 -- two bytes, one after the other
 pub pair-stored : (d : List ℕ) (at a : ℕ) {b c : ℕ} → b ≡ c → set (set d at a) (at + 1) b ≡ sets d at (a ∷ c ∷ [])

@@ -1,2 +1,3 @@
 -- The entries, rows and table that work memory holds, and why the code can read them.
-pub mod Entered
+pub mod Model
+pub mod Laws

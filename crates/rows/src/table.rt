@@ -11,12 +11,12 @@ ghost use mathlib.Core.List.{List, [], _∷_, _++_};
 ghost use Prim.Native.Nat.{_+_, _*_, _^_, _≤_, _<_};
 ghost use lib.ListN.{length, getD};
 ghost use lib.Seq.{sets};
-ghost use Rattle.records.specs.Lists.{cat};
-ghost use Rattle.records.specs.Numbers.{u16Bytes};
-ghost use Rattle.records.specs.Cursor.{header};
-ghost use Rattle.records.specs.Layout.{rowLength, tableLength};
-ghost use Rattle.values.specs.Numbered.{stepsOf};
-ghost use Rattle.rows.specs.Entered.{entryBy, rowBy, tableBy, Entered, Tabled};
+ghost use Rattle.records.specs.Meaning.Lists.{cat};
+ghost use Rattle.records.specs.Meaning.Numbers.{u16Bytes};
+ghost use Rattle.records.specs.Meaning.Records.{header};
+ghost use Rattle.records.specs.Meaning.GuardTable.{rowLength, tableLength};
+ghost use Rattle.values.specs.Model.Numbered.{stepsOf};
+ghost use Rattle.rows.specs.Model.Entered.{entryBy, rowBy, tableBy, Entered, Tabled};
 
 // The head, at the start of the result.
 pub fn put_head(result: &mut [u8], mode: u8, inputs: u8, outputs: u8, horizon: u8, count: u16)

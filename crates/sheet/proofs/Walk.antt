@@ -7,25 +7,26 @@ use Prim.Native.Nat.{ℕ, zero, suc, _+_, _-_, _≤_, _<_}
 use native.Mathlib.Omega.{arith}
 use lib.Dec.{leb, eqb}
 use lib.ListN.{length}
-use Rattle.records.specs.Cursor.{readAt, lies}
-use Rattle.records.specs.Limits.{maxLines, maxMonitors, horizonOk}
+use Rattle.records.specs.Meaning.Records.{readAt}
+use Rattle.records.specs.Laws.Cursor.{lies}
+use Rattle.records.specs.Meaning.Limits.{maxLines, maxMonitors, horizonOk}
 use Rattle.records.specs.declared.cursor.Cursor.{Cursor}
 use Rattle.records.specs.declared.cursor.Found.{Found}
 use Rattle.records.specs.declared.cursor.Found.the-variants as found
-use Rattle.sheet.specs.Decoded.{inputsOf}
-use Rattle.sheet.specs.Layout.{withMonitor, accepted, refused}
-use Rattle.fields.specs.Places.{modeAt, siteAt, outputsAt, horizonAt}
-use Rattle.fields.specs.Head.{headOk}
-use Rattle.fields.specs.Monitor.{monitorOk}
-use Rattle.sheet.specs.Head.{headSheet, readHead}
-use Rattle.sheet.specs.Monitor.{monitorAt, takeMonitor}
-use Rattle.sheet.specs.Reader.{takeRecord, onFound, readRecords}
+use Rattle.sheet.specs.Meaning.Decoded.{inputsOf}
+use Rattle.sheet.specs.Model.Layout.{withMonitor, accepted, refused}
+use Rattle.fields.specs.Meaning.Places.{modeAt, siteAt, outputsAt, horizonAt}
+use Rattle.fields.specs.Meaning.Head.{headOk}
+use Rattle.fields.specs.Meaning.Monitor.{monitorOk}
+use Rattle.sheet.specs.Model.Head.{headSheet, readHead}
+use Rattle.sheet.specs.Model.Monitor.{monitorAt, takeMonitor}
+use Rattle.sheet.specs.Model.Reader.{takeRecord, onFound, readRecords}
 use Rattle.sheet.specs.declared.layout.Sheet.{Sheet}
 use Rattle.sheet.specs.declared.layout.Refusal.{Refusal}
 use Rattle.sheet.specs.declared.layout.Refusal.the-variants.{Truncated, Misplaced, BadHead, BadMonitor, SeventhMonitor, LongHorizon}
 use Rattle.sheet.specs.declared.layout.Verdict.the-variants.{Accepted, Refused}
 use Rattle.sheet.specs.declared.layout.Reading.{Reading}
-use Rattle.fields.specs.Facts.{head-facts}
+use Rattle.fields.specs.Laws.Facts.{head-facts}
 
 -- the lines that monitors read: site lines and outputs
 abbrev pub lines : Sheet → ℕ

@@ -11,9 +11,9 @@ use records::limits::horizon_ok;
 ghost use mathlib.Core.Path.{_≡_};
 ghost use Prim.Native.Nat.{_+_, _≤_};
 ghost use lib.ListN.{length};
-ghost use Rattle.records.specs.Limits.{maxInputs, maxOutputs};
-ghost use Rattle.fields.specs.Places.{siteAt, outputsAt, literalsFrom};
-ghost use Rattle.sheet.specs.Head.{headSheet, readHead};
+ghost use Rattle.records.specs.Meaning.Limits.{maxInputs, maxOutputs};
+ghost use Rattle.fields.specs.Meaning.Places.{siteAt, outputsAt, literalsFrom};
+ghost use Rattle.sheet.specs.Model.Head.{headSheet, readHead};
 
 // The sheet of a head that is in order, with no monitors yet.
 pub fn head_sheet(s: &[u8], start: usize) -> Sheet

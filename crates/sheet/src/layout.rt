@@ -2,8 +2,9 @@
 use records::limits::Limits;
 ghost use mathlib.Core.Path.{_≡_};
 ghost use Prim.Native.Nat.{_<_};
-ghost use Rattle.records.specs.Limits.{maxMonitors};
-ghost use Rattle.sheet.specs.Layout.{noMonitor, blank, withMonitor, accepted, refused, groundNumber};
+ghost use Rattle.records.specs.Meaning.Limits.{maxMonitors};
+ghost use Rattle.sheet.specs.Model.Layout.{noMonitor, blank, withMonitor, accepted, refused};
+ghost use Rattle.sheet.specs.Meaning.Grounds.{groundNumber};
 
 // One monitor: its numbers, and where its accept bytes and its rows of next states begin.
 pub struct Monitor {

@@ -12,10 +12,10 @@ use records::limits::Limits;
 ghost use mathlib.Core.Path.{_≡_};
 ghost use Prim.Native.Nat.{_+_, _<_, _≤_};
 ghost use lib.ListN.{length};
-ghost use Rattle.records.specs.Limits.{maxLines};
-ghost use Rattle.fields.specs.Places.{acceptFrom};
-ghost use Rattle.fields.specs.Monitor.{monitorOk};
-ghost use Rattle.sheet.specs.Monitor.{monitorAt, takeMonitor};
+ghost use Rattle.records.specs.Meaning.Limits.{maxLines};
+ghost use Rattle.fields.specs.Meaning.Places.{acceptFrom};
+ghost use Rattle.fields.specs.Meaning.Monitor.{monitorOk};
+ghost use Rattle.sheet.specs.Model.Monitor.{monitorAt, takeMonitor};
 
 // Whether a monitor's body is in order; its tables are looked at only where its numbers are.
 pub fn monitor_ok(s: &[u8], sheet: Sheet, start: usize, size: usize) -> bool

@@ -10,9 +10,9 @@ use records::cursor::Found;
 ghost use mathlib.Core.Path.{_≡_};
 ghost use Prim.Native.Nat.{_+_, suc, _≤_};
 ghost use lib.ListN.{length};
-ghost use Rattle.records.specs.Limits.{maxLines};
-ghost use Rattle.sheet.specs.Reader.{takeRecord, readRecords, reading};
-ghost use Rattle.sheet.specs.Promises.{Reads};
+ghost use Rattle.records.specs.Meaning.Limits.{maxLines};
+ghost use Rattle.sheet.specs.Model.Reader.{takeRecord, readRecords, reading};
+ghost use Rattle.sheet.specs.Promises.Reader.{Reads};
 
 // A record after the head.
 pub fn take_record(s: &[u8], sheet: Sheet, kind: u16, start: usize, size: usize) -> Reading

@@ -7,19 +7,19 @@ use Prim.Native.Nat.{ℕ, _^_, _≤_, _<_}
 use native.Mathlib.Omega.{arith}
 use lib.ListN.{length}
 use lib.Seq.{sets}
-use Rattle.records.specs.Lists.{cat}
-use Rattle.records.specs.Numbers.{u16Bytes}
-use Rattle.records.specs.Cursor.{header}
-use Rattle.sheet.specs.Where.{decoded, Fits}
+use Rattle.records.specs.Meaning.Lists.{cat}
+use Rattle.records.specs.Meaning.Numbers.{u16Bytes}
+use Rattle.records.specs.Meaning.Records.{header}
+use Rattle.sheet.specs.Model.Where.{decoded, Fits}
 use Rattle.sheet.specs.declared.layout.Sheet.{Sheet}
 use Rattle.sheet.specs.declared.layout.Refusal.the-variants as ground
-use Rattle.product.specs.Numbered.{stateCount}
-use Rattle.masks.specs.Rows.{tableRow, tableLength}
-use Rattle.supervisor.specs.Table.{supervisorTable}
-use Rattle.supervisor.specs.Solve.{Solution}
-use Rattle.supervisor.specs.Making.{Judges}
-use Rattle.supervisor.specs.Solving.{inputs-most, outputs-most, layout-inputs, layout-outputs}
-use Rattle.supervisor.specs.Written.{solved-short, layout-made}
+use Rattle.product.specs.Model.Numbered.{stateCount}
+use Rattle.masks.specs.Model.Rows.{tableRow, tableLength}
+use Rattle.supervisor.specs.Model.Table.{supervisorTable}
+use Rattle.supervisor.specs.Model.Solve.{Solution}
+use Rattle.supervisor.specs.Model.Making.{Judges}
+use Rattle.supervisor.specs.Laws.Solving.{inputs-most, outputs-most, layout-inputs, layout-outputs}
+use Rattle.supervisor.specs.Laws.Written.{solved-short, layout-made}
 use Rattle.supervisor.specs.declared.make.Made.the-variants.{Table, Refused}
 
 module _ {s : List ℕ} {h : Sheet} (fits : Fits s h) where

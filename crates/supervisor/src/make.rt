@@ -15,12 +15,12 @@ ghost use mathlib.Core.Path.{_≡_};
 ghost use mathlib.Core.Bool.{true};
 ghost use Prim.Native.Nat.{_≤_};
 ghost use lib.ListN.{length};
-ghost use Rattle.records.specs.Numbers.{zeros};
-ghost use Rattle.sheet.specs.Where.{Fits, decoded};
-ghost use Rattle.product.specs.Numbered.{stateCount};
-ghost use Rattle.supervisor.specs.Table.{supervisorTable};
-ghost use Rattle.supervisor.specs.Making.{Answers, Judges};
-ghost use Rattle.supervisor.specs.Promises.{workOk, MakesSupervisor};
+ghost use Rattle.records.specs.Meaning.Numbers.{zeros};
+ghost use Rattle.sheet.specs.Model.Where.{Fits, decoded};
+ghost use Rattle.product.specs.Model.Numbered.{stateCount};
+ghost use Rattle.supervisor.specs.Model.Table.{supervisorTable};
+ghost use Rattle.supervisor.specs.Model.Making.{Answers, Judges};
+ghost use Rattle.supervisor.specs.Promises.Supervisor.{workOk, MakesSupervisor};
 
 // What a maker answers: the bytes of the table and the states that it has, or the ground of the refusal.
 pub enum Made {

@@ -1,4 +1,3 @@
 -- Guard tables that a board may load: when a slice is one, what that tells, and that the table of given entries is one.
-pub mod Loadable
-pub mod Facts
-pub mod Guard
+pub mod Meaning
+pub mod Laws

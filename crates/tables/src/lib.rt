@@ -7,9 +7,9 @@ use records::numbers::u16_at;
 ghost use mathlib.Core.Path.{_≡_};
 ghost use Prim.Native.Nat.{_+_, _<_, _≤_};
 ghost use lib.ListN.{length};
-ghost use Rattle.records.specs.Limits.{maxInputs, maxOutputs, maxStates};
-ghost use Rattle.records.specs.GuardTable.{rowAt};
-ghost use Rattle.tables.specs.Loadable.{sizeOk, fieldsOk, headOk, entryOk, entriesOk, rowOk, rowsOk, loadable, Sized};
+ghost use Rattle.records.specs.Meaning.Limits.{maxInputs, maxOutputs, maxStates};
+ghost use Rattle.records.specs.Meaning.GuardTable.{rowAt};
+ghost use Rattle.tables.specs.Meaning.Loadable.{sizeOk, fieldsOk, headOk, entryOk, entriesOk, rowOk, rowsOk, loadable, Sized};
 
 // Whether the count is in range, and the slice is as long as a table of so many states.
 fn size_ok(inputs: u8, count: u16, size: usize) -> bool

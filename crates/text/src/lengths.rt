@@ -5,10 +5,10 @@ use records::numbers::u16_at;
 ghost use mathlib.Core.Path.{_≡_};
 ghost use Prim.Native.Nat.{_^_, _≤_, _<_};
 ghost use lib.ListN.{length, getD};
-ghost use Rattle.records.specs.Lists.{cat};
-ghost use Rattle.records.specs.Numbers.{u16At};
-ghost use Rattle.text.specs.Listing.{decimal, headLine, entryText, entryOf, rowOf, listingOf};
-ghost use Rattle.text.specs.Put.{Filled};
+ghost use Rattle.records.specs.Meaning.Lists.{cat};
+ghost use Rattle.records.specs.Meaning.Numbers.{u16At};
+ghost use Rattle.text.specs.Meaning.Listing.{decimal, headLine, entryText, entryOf, rowOf, listingOf};
+ghost use Rattle.text.specs.Model.Put.{Filled};
 
 // A number in decimal: a digit, and one for each time that it can be divided by ten.
 pub fn number_length(n: usize) -> usize

@@ -8,10 +8,10 @@ ghost use mathlib.Core.Path.{_≡_};
 ghost use mathlib.Core.List.{[], _∷_};
 ghost use Prim.Native.Nat.{_+_, _^_, _≤_, _<_};
 ghost use lib.ListN.{length, getD};
-ghost use Rattle.records.specs.Lists.{cat};
-ghost use Rattle.records.specs.Numbers.{u16At};
-ghost use Rattle.text.specs.Listing.{decimal, labelled, headLine, entryText, outputIn, nextIn, entryOf, rowOf, listingOf};
-ghost use Rattle.text.specs.Put.{Put, Filled};
+ghost use Rattle.records.specs.Meaning.Lists.{cat};
+ghost use Rattle.records.specs.Meaning.Numbers.{u16At};
+ghost use Rattle.text.specs.Meaning.Listing.{decimal, labelled, headLine, entryText, outputIn, nextIn, entryOf, rowOf, listingOf};
+ghost use Rattle.text.specs.Model.Put.{Put, Filled};
 
 // One byte.
 pub fn put_byte(text: &mut [u8], at: usize, byte: u8) -> usize

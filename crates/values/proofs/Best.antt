@@ -6,11 +6,14 @@ use mathlib.Core.List.{List}
 use Prim.Native.Nat.{ℕ, _+_, _*_, _^_, _≤_, _<_, max}
 use native.Mathlib.Omega.{arith}
 use lib.ListN.{getD}
-use Rattle.records.specs.Bounded.{sum, sum-more, sum-most, top, top-more}
-use Rattle.rounds.specs.Rounds.{cellAt, isIn, leadsIn}
-use Rattle.values.specs.Values.{Game, mayGive, nextOf, earns, scoreOf, worth}
-use Rattle.values.specs.Sizes.{Ready, scoreAt, Scored, bestOf, scored-at}
-use Rattle.values.specs.Growth.{best-most}
+use Rattle.records.specs.Meaning.Bounded.{sum}
+use Rattle.records.specs.Laws.Bounded.{sum-more, sum-most, top-more}
+use Rattle.records.specs.Model.Bounded.{top}
+use Rattle.rounds.specs.Model.Rounds.{cellAt, isIn, leadsIn}
+use Rattle.values.specs.Model.Values.{Game, mayGive, nextOf, earns, scoreOf, worth}
+use Rattle.values.specs.Model.Sizes.{Ready, scoreAt, Scored, bestOf}
+use Rattle.values.specs.Laws.Sizes.{scored-at}
+use Rattle.values.specs.Laws.Growth.{best-most}
 
 module _ {g : Game} {values : List ℕ} {factor k : ℕ} (ready : Ready g values factor k) (i : ℕ) (hi : i < g .inputs) where
   -- the cell of output o

@@ -7,10 +7,11 @@ use native.Mathlib.Nat.{pow-zero, pow-suc}
 use native.Mathlib.Numerals.{add-one}
 use native.Mathlib.Omega.{arith}
 use lib.ListN.{length, getD}
-use Rattle.records.specs.Lists.{put, put-put, put-ext, length-put, getD-put-front}
-use Rattle.values.specs.Values.{Game, Sized, worth, valueRow}
-use Rattle.values.specs.Sizes.{Valued}
-use Rattle.values.specs.Growth.{row-none, row-more, length-row, row-over, row-valued, words-mono}
+use Rattle.records.specs.Model.Lists.{put}
+use Rattle.records.specs.Laws.Lists.{put-put, put-ext, length-put, getD-put-front}
+use Rattle.values.specs.Model.Values.{Game, Sized, worth, valueRow}
+use Rattle.values.specs.Model.Sizes.{Valued}
+use Rattle.values.specs.Laws.Growth.{row-none, row-more, length-row, row-over, row-valued, words-mono}
 
 -- `memory` and `spare` are the two rows as the loop found them
 pub record Iterated

@@ -7,13 +7,15 @@ use mathlib.Core.Option.{Option, none, some, Option·getD}
 use Prim.Native.Nat.{ℕ, _+_, _*_, _≤_, _<_}
 use native.Mathlib.Omega.{arith}
 use lib.ListN.{getD}
-use Rattle.rounds.specs.Rounds.{cellAt, leadsIn}
-use Rattle.game.specs.Choice.{leader, leader-none, leader-more, choose}
-use Rattle.values.specs.Order.{rank, rankBy}
-use Rattle.values.specs.Values.{Game, mayGive, scoreOf, choiceOf}
-use Rattle.values.specs.Sizes.{scoreAt}
-use Rattle.values.specs.Leaders.{literalsOf, rank-literals, noLeader, challenged, leaderOf, leader-output, leader-against}
-use Rattle.values.specs.Choices.{leader-low}
+use Rattle.rounds.specs.Model.Rounds.{cellAt, leadsIn}
+use Rattle.game.specs.Model.Choice.{leader, choose}
+use Rattle.game.specs.Laws.Choice.{leader-none, leader-more}
+use Rattle.values.specs.Model.Rank.{rank, rankBy}
+use Rattle.values.specs.Model.Values.{Game, mayGive, scoreOf, choiceOf}
+use Rattle.values.specs.Model.Sizes.{scoreAt}
+use Rattle.values.specs.Model.Leaders.{literalsOf, noLeader, challenged, leaderOf}
+use Rattle.values.specs.Laws.Leaders.{rank-literals, leader-output, leader-against}
+use Rattle.values.specs.Laws.Choices.{leader-low}
 use Rattle.values.specs.declared.choice.Leader.{Leader}
 use Rattle.values.proofs.Best.{score-found}
 

@@ -1,10 +1,4 @@
 -- Value iteration, the output order, the choice, and the states of the guard, over a table of steps.
-pub mod Order
-pub mod Values
-pub mod Guard
-pub mod Ranks
-pub mod Sizes
-pub mod Growth
-pub mod Leaders
-pub mod Numbered
-pub mod Choices
+pub mod Meaning
+pub mod Model
+pub mod Laws

@@ -6,9 +6,9 @@ use crate::values::score_of;
 ghost use mathlib.Core.Path.{_≡_};
 ghost use Prim.Native.Nat.{_*_, _≤_, _<_};
 ghost use lib.ListN.{length};
-ghost use Rattle.values.specs.Values.{Sized, choiceOf, choices};
-ghost use Rattle.values.specs.Sizes.{gameOf, Valued, Ready};
-ghost use Rattle.values.specs.Leaders.{goesBefore, noLeader, challenged, literalsOf};
+ghost use Rattle.values.specs.Model.Values.{Sized, choiceOf, choices};
+ghost use Rattle.values.specs.Model.Sizes.{gameOf, Valued, Ready};
+ghost use Rattle.values.specs.Model.Leaders.{goesBefore, noLeader, challenged, literalsOf};
 
 // The output that leads so far, with its score and its rank; none at first.
 pub struct Leader {

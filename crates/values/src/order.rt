@@ -2,7 +2,8 @@
 use records::numbers::pow2;
 ghost use mathlib.Core.Path.{_≡_};
 ghost use Prim.Native.Nat.{_≤_};
-ghost use Rattle.values.specs.Order.{holds, rankBy};
+ghost use Rattle.values.specs.Meaning.Order.{holds};
+ghost use Rattle.values.specs.Model.Rank.{rankBy};
 
 // Whether a literal holds of an output: whether its line is as preferred.
 pub fn holds(literal: u8, o: usize) -> bool

@@ -8,11 +8,11 @@ use rounds::leads_to_kept;
 ghost use mathlib.Core.Path.{_≡_};
 ghost use Prim.Native.Nat.{_+_, _*_, _^_, _≤_, _<_, max};
 ghost use lib.ListN.{length, getD};
-ghost use Rattle.records.specs.Lists.{put};
-ghost use Rattle.rounds.specs.Rounds.{cellAt, leadsIn};
-ghost use Rattle.rounds.specs.Cells.{InRow, Leads};
-ghost use Rattle.values.specs.Values.{Sized, worth, valueRow};
-ghost use Rattle.values.specs.Sizes.{gameOf, Valued, Ready, scoreAt, Scored, bestOf};
+ghost use Rattle.records.specs.Model.Lists.{put};
+ghost use Rattle.rounds.specs.Model.Rounds.{cellAt, leadsIn};
+ghost use Rattle.rounds.specs.Laws.Cells.{InRow, Leads};
+ghost use Rattle.values.specs.Model.Values.{Sized, worth, valueRow};
+ghost use Rattle.values.specs.Model.Sizes.{gameOf, Valued, Ready, scoreAt, Scored, bestOf};
 
 // Whether an output may be given: its step is unbroken and ends in a kept state.
 pub fn may_give(

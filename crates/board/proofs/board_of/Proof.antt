@@ -1,5 +1,5 @@
 -- `board::board_of`: the head's fields. Assumes nothing.
-use Rattle.board.specs.Load.{boardOf}
+use Rattle.board.specs.Meaning.Load.{boardOf}
 use borrow.Author.Needs.{needs}
 use Rattle.board.proofs.board_of.Statement.{statement}
 use Rattle.board.proofs.board_of.Tie as tie

@@ -1,6 +1,6 @@
 -- `board::counts_ok`: the tests in the definition's order. Assumes nothing.
-use Rattle.records.specs.Tests.{cases}
-use Rattle.board.specs.Board.{countsOk}
+use Rattle.records.specs.Laws.Tests.{cases}
+use Rattle.board.specs.Meaning.Board.{countsOk}
 use Rattle.board.proofs.counts_ok.Statement.{statement}
 use Rattle.board.proofs.counts_ok.Tie as tie
 

@@ -2,9 +2,9 @@
 use native.Mathlib.Omega.{arith}
 use lib.Pow.{pow-pos}
 use borrow.Author.Tests.{eq-eqb}
-use Rattle.records.specs.Tests.{cases}
-use Rattle.records.specs.Limits.{Lines, lines-facts}
-use Rattle.board.specs.Step.{proposal, deviates}
+use Rattle.records.specs.Laws.Tests.{cases}
+use Rattle.records.specs.Laws.Limits.{Lines, lines-facts}
+use Rattle.board.specs.Meaning.Step.{proposal, deviates}
 use Rattle.board.proofs.deviates.Statement.{statement}
 use Rattle.board.proofs.deviates.Tie as tie
 

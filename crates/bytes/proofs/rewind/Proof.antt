@@ -1,6 +1,6 @@
 -- `bytes::rewind`: the call below, by bytes. Assumes nothing.
 use native.Mathlib.Omega.{arith}
-use Rattle.board.specs.Promises.{RewindPromise}
+use Rattle.board.specs.Promises.Board.{RewindPromise}
 use Rattle.bytes.proofs.Handing.{written, untouched, changes}
 use borrow.Author.Needs.{needs}
 use Rattle.bytes.proofs.rewind.Statement.{statement}

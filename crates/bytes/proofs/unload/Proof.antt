@@ -1,6 +1,6 @@
 -- `bytes::unload`: the call below, by bytes. Assumes nothing.
 use native.Mathlib.Omega.{arith}
-use Rattle.board.specs.Promises.{UnloadPromise}
+use Rattle.board.specs.Promises.Board.{UnloadPromise}
 use Rattle.bytes.proofs.Handing.{written, untouched, changes}
 use borrow.Author.Needs.{needs}
 use Rattle.bytes.proofs.unload.Statement.{statement}

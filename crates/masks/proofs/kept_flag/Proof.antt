@@ -1,6 +1,6 @@
 -- `masks::kept_flag`: 1 where no round has dropped the state. Assumes nothing.
-use Rattle.records.specs.Tests.{said}
-use Rattle.masks.specs.Rows.{keptFlag}
+use Rattle.records.specs.Laws.Tests.{said}
+use Rattle.masks.specs.Model.Rows.{keptFlag}
 use borrow.Author.Needs.{needs}
 use Rattle.masks.proofs.kept_flag.Statement.{statement}
 use Rattle.masks.proofs.kept_flag.Tie as tie

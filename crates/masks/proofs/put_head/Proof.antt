@@ -2,8 +2,8 @@
 use mathlib.Core.Path.{ap, _∙_}
 use mathlib.Core.List.{_∷_, _++_}
 use lib.Seq.{length-sets}
-use Rattle.records.specs.Numbers.{u16Bytes}
-use Rattle.records.specs.Cursor.{header}
+use Rattle.records.specs.Meaning.Numbers.{u16Bytes}
+use Rattle.records.specs.Meaning.Records.{header}
 use native.Mathlib.Omega.{arith}
 use lib.ListN.{length, length-set}
 use borrow.Author.Needs.{needs}

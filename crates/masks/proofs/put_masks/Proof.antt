@@ -1,8 +1,8 @@
 -- `masks::put_masks`: the masks of the inputs before i are stored. Assumes nothing.
 use Prim.Native.Nat.{_≤_, _-_}
 use native.Mathlib.Omega.{arith}
-use Rattle.rounds.specs.Rounds.{maskOf}
-use Rattle.records.specs.Stores.{Elements, same, none, more, all}
+use Rattle.rounds.specs.Model.Rounds.{maskOf}
+use Rattle.records.specs.Laws.Stores.{Elements, same, none, more, all}
 use Rattle.masks.proofs.put_masks.Statement.{statement}
 use Rattle.masks.proofs.put_masks.Tie as tie
 

@@ -4,9 +4,9 @@ use Prim.Native.Nat.{_+_}
 use native.Mathlib.Omega.{arith}
 use lib.ListN.{length, length-set}
 use lib.Seq.{length-sets}
-use Rattle.records.specs.Lists.{tab}
-use Rattle.rounds.specs.Rounds.{maskOf}
-use Rattle.masks.specs.Rows.{keptFlag, tableRow}
+use Rattle.records.specs.Meaning.Lists.{tab}
+use Rattle.rounds.specs.Model.Rounds.{maskOf}
+use Rattle.masks.specs.Model.Rows.{keptFlag, tableRow}
 use Rattle.masks.proofs.Stores.{whole-record}
 use borrow.Author.Needs.{needs}
 use Rattle.masks.proofs.put_row.Statement.{statement}

@@ -3,9 +3,9 @@ use mathlib.Core.Path.{sym, _∙_}
 use Prim.Native.Nat.{_+_, _*_, _≤_, _-_}
 use native.Mathlib.Omega.{arith}
 use lib.ListN.{length}
-use Rattle.masks.specs.Rows.{tableRow}
-use Rattle.masks.specs.Rows.{length-row}
-use Rattle.records.specs.Stores.{Blocks, no-block, same-blocks, more-blocks, all-blocks}
+use Rattle.masks.specs.Model.Rows.{tableRow}
+use Rattle.masks.specs.Laws.Rows.{length-row}
+use Rattle.records.specs.Laws.Stores.{Blocks, no-block, same-blocks, more-blocks, all-blocks}
 use Rattle.masks.proofs.Stores.{row-inside}
 use Rattle.masks.proofs.put_rows.Statement.{statement}
 use Rattle.masks.proofs.put_rows.Tie as tie

@@ -1,5 +1,5 @@
 -- `masks::row_length`: a header, the kept byte, and a mask for each input. Assumes nothing.
-use Rattle.masks.specs.Rows.{rowLength}
+use Rattle.masks.specs.Model.Rows.{rowLength}
 use borrow.Author.Needs.{needs}
 use Rattle.masks.proofs.row_length.Statement.{statement}
 use Rattle.masks.proofs.row_length.Tie as tie

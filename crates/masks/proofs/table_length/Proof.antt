@@ -1,5 +1,5 @@
 -- `masks::table_length`: at most 256 rows of at most 21 bytes. Assumes nothing.
-use Rattle.masks.specs.Rows.{tableLength}
+use Rattle.masks.specs.Model.Rows.{tableLength}
 use native.Mathlib.Nat.{mul-le-mul}
 use native.Mathlib.Omega.{arith}
 use borrow.Author.Needs.{needs}

@@ -4,9 +4,9 @@ use mathlib.Core.Bool.{Bool}
 use mathlib.Core.Logic.{⊎-elim}
 use Prim.Native.Nat.{_-_}
 use native.Mathlib.Omega.{arith}
-use Rattle.records.specs.Tests.{said, said-no, said-yes}
-use Rattle.rounds.specs.Masks.{allows, mask-bits, mask-lost}
-use Rattle.rounds.specs.Cells.{in-row, leads-at}
+use Rattle.records.specs.Laws.Tests.{said, said-no, said-yes}
+use Rattle.rounds.specs.Laws.Masks.{allows, mask-bits, mask-lost}
+use Rattle.rounds.specs.Laws.Cells.{in-row, leads-at}
 use Rattle.rounds.proofs.Masking.{Masking, begin, fits, bit-on, bit-off, end}
 use Rattle.rounds.proofs.mask_of.Statement.{statement}
 use Rattle.rounds.proofs.mask_of.Tie as tie

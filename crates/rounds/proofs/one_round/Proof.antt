@@ -4,8 +4,8 @@ use mathlib.Core.Path.{_≡_}
 use mathlib.Core.Bool.{Bool}
 use mathlib.Core.Logic.{⊎-elim}
 use native.Mathlib.Omega.{arith}
-use Rattle.records.specs.Tests.{said}
-use Rattle.rounds.specs.InPlace.{drops}
+use Rattle.records.specs.Laws.Tests.{said}
+use Rattle.rounds.specs.Model.InPlace.{drops}
 use Rattle.rounds.proofs.Turn.{Turn, begin, same, lost-most, drop, keep, end}
 use Rattle.rounds.proofs.one_round.Statement.{statement}
 use Rattle.rounds.proofs.one_round.Tie as tie

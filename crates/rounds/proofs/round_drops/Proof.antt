@@ -1,8 +1,8 @@
 -- `rounds::round_drops`: the two tests, in the definition's order. Assumes nothing.
 use mathlib.Core.Path.{ap}
 use mathlib.Core.Bool.{not}
-use Rattle.records.specs.Tests.{said-no, said-yes}
-use Rattle.rounds.specs.InPlace.{drops}
+use Rattle.records.specs.Laws.Tests.{said-no, said-yes}
+use Rattle.rounds.specs.Model.InPlace.{drops}
 use borrow.Author.Needs.{needs}
 use Rattle.rounds.proofs.round_drops.Statement.{statement}
 use Rattle.rounds.proofs.round_drops.Tie as tie

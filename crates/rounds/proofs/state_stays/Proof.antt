@@ -6,11 +6,12 @@ use mathlib.Core.Logic.{⊎-elim}
 use Prim.Native.Nat.{ℕ, _-_, _≤_, _<_}
 use native.Mathlib.Omega.{arith}
 use borrow.Author.Count.{below-none, below-more}
-use Rattle.records.specs.Tests.{said}
-use Rattle.records.specs.Bounded.{all, all-none, all-more, any-of}
-use Rattle.rounds.specs.Rounds.{cellAt, leadsIn, answered}
-use Rattle.rounds.specs.InPlace.{atStart}
-use Rattle.rounds.specs.Cells.{in-row, leads-at}
+use Rattle.records.specs.Laws.Tests.{said}
+use Rattle.records.specs.Meaning.Bounded.{all}
+use Rattle.records.specs.Laws.Bounded.{all-none, all-more, any-of}
+use Rattle.rounds.specs.Model.Rounds.{cellAt, leadsIn, answered}
+use Rattle.rounds.specs.Model.InPlace.{atStart}
+use Rattle.rounds.specs.Laws.Cells.{in-row, leads-at}
 use Rattle.rounds.proofs.Search.{all-passed, one-failed}
 use Rattle.rounds.proofs.state_stays.Statement.{statement}
 use Rattle.rounds.proofs.state_stays.Tie as tie

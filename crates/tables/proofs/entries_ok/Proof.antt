@@ -7,12 +7,12 @@ use mathlib.Core.Bool.{Bool, true}
 use lib.ListN.{length}
 use lib.Pow.{pow-mono}
 use denote.Ref.{now}
-use Rattle.records.specs.Tests.{said-no, said-yes}
-use Rattle.records.specs.Bounded.{all-of, all-fails}
-use Rattle.records.specs.Limits.{maxInputs}
-use Rattle.records.specs.Layout.{entryAt}
-use Rattle.records.specs.GuardTable.{entry-inside}
-use Rattle.tables.specs.Loadable.{entryOk, entriesOk}
+use Rattle.records.specs.Laws.Tests.{said-no, said-yes}
+use Rattle.records.specs.Laws.Bounded.{all-of, all-fails}
+use Rattle.records.specs.Meaning.Limits.{maxInputs}
+use Rattle.records.specs.Meaning.GuardTable.{entryAt}
+use Rattle.records.specs.Laws.GuardTable.{entry-inside}
+use Rattle.tables.specs.Meaning.Loadable.{entryOk, entriesOk}
 use Rattle.tables.proofs.entries_ok.Statement.{statement}
 use Rattle.tables.proofs.entries_ok.Tie as tie
 

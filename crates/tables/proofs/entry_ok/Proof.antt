@@ -1,8 +1,8 @@
 -- `tables::entry_ok`: the tests in the definition's order. Assumes nothing.
 use native.Mathlib.Omega.{arith}
 use Prim.Native.Nat.{_+_}
-use Rattle.records.specs.Tests.{cases}
-use Rattle.tables.specs.Loadable.{entryOk}
+use Rattle.records.specs.Laws.Tests.{cases}
+use Rattle.tables.specs.Meaning.Loadable.{entryOk}
 use borrow.Author.Needs.{needs}
 use Rattle.tables.proofs.entry_ok.Statement.{statement}
 use Rattle.tables.proofs.entry_ok.Tie as tie

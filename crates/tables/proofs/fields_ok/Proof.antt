@@ -1,9 +1,10 @@
 -- `tables::fields_ok`: the tests in the definition's order. Assumes nothing.
 use mathlib.Core.Path.{_≡_}
 use mathlib.Core.Bool.{true}
-use Rattle.records.specs.Tests.{said}
-use Rattle.records.specs.Limits.{linesOk, lines-facts}
-use Rattle.tables.specs.Loadable.{fieldsOk}
+use Rattle.records.specs.Laws.Tests.{said}
+use Rattle.records.specs.Meaning.Limits.{linesOk}
+use Rattle.records.specs.Laws.Limits.{lines-facts}
+use Rattle.tables.specs.Meaning.Loadable.{fieldsOk}
 use borrow.Author.Needs.{needs}
 use Rattle.tables.proofs.fields_ok.Statement.{statement}
 use Rattle.tables.proofs.fields_ok.Tie as tie

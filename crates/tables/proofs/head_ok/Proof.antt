@@ -1,7 +1,7 @@
 -- `tables::head_ok`: the tests in the definition's order. Assumes nothing.
-use Rattle.records.specs.Tests.{cases}
-use Rattle.records.specs.Layout.{headerIs}
-use Rattle.tables.specs.Loadable.{headOk}
+use Rattle.records.specs.Laws.Tests.{cases}
+use Rattle.records.specs.Meaning.GuardTable.{headerIs}
+use Rattle.tables.specs.Meaning.Loadable.{headOk}
 use borrow.Author.Needs.{needs}
 use Rattle.tables.proofs.head_ok.Statement.{statement}
 use Rattle.tables.proofs.head_ok.Tie as tie

@@ -3,9 +3,9 @@ use native.Mathlib.Omega.{arith}
 use mathlib.Core.Path.{_≡_}
 use mathlib.Core.Bool.{true}
 use denote.Ref.{now}
-use Rattle.records.specs.Tests.{said}
-use Rattle.tables.specs.Loadable.{headOk, loadable}
-use Rattle.tables.specs.Facts.{head-facts, head-sized}
+use Rattle.records.specs.Laws.Tests.{said}
+use Rattle.tables.specs.Meaning.Loadable.{headOk, loadable}
+use Rattle.tables.specs.Laws.Facts.{head-facts, head-sized}
 use borrow.Author.Needs.{needs}
 use Rattle.tables.proofs.is_loadable.Statement.{statement}
 use Rattle.tables.proofs.is_loadable.Tie as tie

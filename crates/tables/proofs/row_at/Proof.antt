@@ -2,8 +2,8 @@
 use native.Mathlib.Omega.{arith}
 use native.Mathlib.Nat.{mul-le-mul}
 use Prim.Native.Nat.{_*_, _≤_}
-use Rattle.records.specs.Limits.{maxStates}
-use Rattle.records.specs.GuardTable.{rowAt}
+use Rattle.records.specs.Meaning.Limits.{maxStates}
+use Rattle.records.specs.Meaning.GuardTable.{rowAt}
 use borrow.Author.Needs.{needs}
 use Rattle.tables.proofs.row_at.Statement.{statement}
 use Rattle.tables.proofs.row_at.Tie as tie

@@ -4,11 +4,11 @@ use Prim.Native.Nat.{_+_, _≤_, _<_}
 use lib.ListN.{length}
 use lib.Pow.{pow-mono}
 use denote.Ref.{now}
-use Rattle.records.specs.Tests.{cases}
-use Rattle.records.specs.Limits.{maxInputs}
-use Rattle.records.specs.Layout.{headerIs}
-use Rattle.records.specs.GuardTable.{row-inside}
-use Rattle.tables.specs.Loadable.{rowOk}
+use Rattle.records.specs.Laws.Tests.{cases}
+use Rattle.records.specs.Meaning.Limits.{maxInputs}
+use Rattle.records.specs.Meaning.GuardTable.{headerIs}
+use Rattle.records.specs.Laws.GuardTable.{row-inside}
+use Rattle.tables.specs.Meaning.Loadable.{rowOk}
 use borrow.Author.Needs.{needs}
 use Rattle.tables.proofs.row_ok.Statement.{statement}
 use Rattle.tables.proofs.row_ok.Tie as tie

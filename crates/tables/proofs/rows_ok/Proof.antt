@@ -3,9 +3,10 @@ use native.Mathlib.Omega.{arith}
 use Prim.Native.Nat.{_≤_, _-_}
 use mathlib.Core.Path.{_≡_, sym}
 use mathlib.Core.Bool.{true}
-use Rattle.records.specs.Tests.{said-no, said-yes}
-use Rattle.records.specs.Bounded.{all, all-none, all-more, all-fails}
-use Rattle.tables.specs.Loadable.{rowOk, rowsOk}
+use Rattle.records.specs.Laws.Tests.{said-no, said-yes}
+use Rattle.records.specs.Meaning.Bounded.{all}
+use Rattle.records.specs.Laws.Bounded.{all-none, all-more, all-fails}
+use Rattle.tables.specs.Meaning.Loadable.{rowOk, rowsOk}
 use Rattle.tables.proofs.rows_ok.Statement.{statement}
 use Rattle.tables.proofs.rows_ok.Tie as tie
 

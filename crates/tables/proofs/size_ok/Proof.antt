@@ -1,6 +1,6 @@
 -- `tables::size_ok`: the tests in the definition's order. Assumes nothing.
-use Rattle.records.specs.Tests.{cases}
-use Rattle.tables.specs.Loadable.{sizeOk}
+use Rattle.records.specs.Laws.Tests.{cases}
+use Rattle.tables.specs.Meaning.Loadable.{sizeOk}
 use borrow.Author.Needs.{needs}
 use Rattle.tables.proofs.size_ok.Statement.{statement}
 use Rattle.tables.proofs.size_ok.Tie as tie

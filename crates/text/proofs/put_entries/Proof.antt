@@ -3,10 +3,10 @@ use mathlib.Core.Path.{_≡_}
 use mathlib.Core.List.{List}
 use Prim.Native.Nat.{ℕ, _-_, _^_, _≤_, _<_}
 use native.Mathlib.Omega.{arith}
-use Rattle.records.specs.Lists.{cat}
-use Rattle.text.specs.Listing.{entryText, entryOf}
-use Rattle.text.specs.Put.{Put}
-use Rattle.text.specs.Pieces.{put-same, put-none, put-more, put-all, put-as, fits-next, entry-found}
+use Rattle.records.specs.Meaning.Lists.{cat}
+use Rattle.text.specs.Meaning.Listing.{entryText, entryOf}
+use Rattle.text.specs.Model.Put.{Put}
+use Rattle.text.specs.Laws.Pieces.{put-same, put-none, put-more, put-all, put-as, fits-next, entry-found}
 use Rattle.text.proofs.put_entries.Statement.{statement}
 use Rattle.text.proofs.put_entries.Tie as tie
 

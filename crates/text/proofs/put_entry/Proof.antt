@@ -3,8 +3,8 @@ use mathlib.Core.List.{_∷_, _++_}
 use Prim.Native.Nat.{_+_, _≤_}
 use native.Mathlib.Omega.{arith}
 use lib.ListN.{length, length-append}
-use Rattle.text.specs.Listing.{decimal, entryText}
-use Rattle.text.specs.Pieces.{put-same, put-then, fits-rest}
+use Rattle.text.specs.Meaning.Listing.{decimal, entryText}
+use Rattle.text.specs.Laws.Pieces.{put-same, put-then, fits-rest}
 use Rattle.text.proofs.put_entry.Statement.{statement}
 use Rattle.text.proofs.put_entry.Tie as tie
 

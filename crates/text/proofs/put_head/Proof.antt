@@ -4,8 +4,8 @@ use mathlib.Core.List.{List, _++_}
 use Prim.Native.Nat.{ℕ, _+_, _≤_}
 use native.Mathlib.Omega.{arith}
 use lib.ListN.{length, length-append}
-use Rattle.text.specs.Listing.{statesWord, inputsWord, outputsWord, horizonWord, lineEnd, labelled, headLine}
-use Rattle.text.specs.Pieces.{put-same, put-then, fits-rest}
+use Rattle.text.specs.Meaning.Listing.{statesWord, inputsWord, outputsWord, horizonWord, lineEnd, labelled, headLine}
+use Rattle.text.specs.Laws.Pieces.{put-same, put-then, fits-rest}
 use borrow.Author.Needs.{needs}
 use Rattle.text.proofs.put_head.Statement.{statement}
 use Rattle.text.proofs.put_head.Tie as tie

@@ -1,8 +1,8 @@
 -- `text::put_labelled`: the word, then the number. Assumes nothing.
 use native.Mathlib.Omega.{arith}
 use lib.ListN.{length-append}
-use Rattle.text.specs.Listing.{decimal, labelled}
-use Rattle.text.specs.Pieces.{put-same, put-then, fits-rest}
+use Rattle.text.specs.Meaning.Listing.{decimal, labelled}
+use Rattle.text.specs.Laws.Pieces.{put-same, put-then, fits-rest}
 use Rattle.text.proofs.put_labelled.Statement.{statement}
 use Rattle.text.proofs.put_labelled.Tie as tie
 

@@ -4,9 +4,9 @@ use mathlib.Core.List.{List, _++_}
 use Prim.Native.Nat.{ℕ, _+_, _≤_}
 use native.Mathlib.Omega.{arith}
 use lib.ListN.{length, getD, length-append}
-use Rattle.records.specs.Lists.{cat}
-use Rattle.text.specs.Listing.{headLine, rowOf, listingOf}
-use Rattle.text.specs.Pieces.{put-same, put-then, put-as, fits-rest, listing-parts}
+use Rattle.records.specs.Meaning.Lists.{cat}
+use Rattle.text.specs.Meaning.Listing.{headLine, rowOf, listingOf}
+use Rattle.text.specs.Laws.Pieces.{put-same, put-then, put-as, fits-rest, listing-parts}
 use Rattle.text.proofs.put_listing.Statement.{statement}
 use Rattle.text.proofs.put_listing.Tie as tie
 

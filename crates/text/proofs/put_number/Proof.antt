@@ -1,7 +1,7 @@
 -- `text::put_number`: one, two or three digits. Assumes nothing.
 use native.Mathlib.Omega.{arith}
-use Rattle.text.specs.Digits.{digits-one, digits-two, digits-three, one-digit, two-digits, three-digits}
-use Rattle.text.specs.Pieces.{put-same, put-then, put-as}
+use Rattle.text.specs.Laws.Digits.{digits-one, digits-two, digits-three, one-digit, two-digits, three-digits}
+use Rattle.text.specs.Laws.Pieces.{put-same, put-then, put-as}
 use Rattle.text.proofs.put_number.Statement.{statement}
 use Rattle.text.proofs.put_number.Tie as tie
 

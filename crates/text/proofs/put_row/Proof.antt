@@ -3,9 +3,9 @@ use mathlib.Core.List.{List, _∷_, _++_}
 use Prim.Native.Nat.{ℕ, _+_, _^_, _≤_}
 use native.Mathlib.Omega.{arith}
 use lib.ListN.{length, length-append}
-use Rattle.records.specs.Lists.{cat}
-use Rattle.text.specs.Listing.{decimal, lineEnd, rowText, entryOf, rowOf}
-use Rattle.text.specs.Pieces.{put-same, put-then, fits-rest}
+use Rattle.records.specs.Meaning.Lists.{cat}
+use Rattle.text.specs.Meaning.Listing.{decimal, lineEnd, rowText, entryOf, rowOf}
+use Rattle.text.specs.Laws.Pieces.{put-same, put-then, fits-rest}
 use Rattle.text.proofs.put_row.Statement.{statement}
 use Rattle.text.proofs.put_row.Tie as tie
 

@@ -2,10 +2,10 @@
 use mathlib.Core.List.{List}
 use Prim.Native.Nat.{ℕ, _-_, _≤_}
 use native.Mathlib.Omega.{arith}
-use Rattle.records.specs.Lists.{cat}
-use Rattle.text.specs.Listing.{rowOf}
-use Rattle.text.specs.Put.{Put}
-use Rattle.text.specs.Pieces.{put-same, put-none, put-more, put-all, fits-next}
+use Rattle.records.specs.Meaning.Lists.{cat}
+use Rattle.text.specs.Meaning.Listing.{rowOf}
+use Rattle.text.specs.Model.Put.{Put}
+use Rattle.text.specs.Laws.Pieces.{put-same, put-none, put-more, put-all, fits-next}
 use Rattle.text.proofs.put_rows.Statement.{statement}
 use Rattle.text.proofs.put_rows.Tie as tie
 

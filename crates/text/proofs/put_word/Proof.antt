@@ -2,9 +2,9 @@
 use Prim.Native.Nat.{_+_, _-_, _≤_}
 use native.Mathlib.Omega.{arith}
 use lib.ListN.{length, getD}
-use Rattle.records.specs.Lists.{tab}
-use Rattle.text.specs.Put.{Put}
-use Rattle.text.specs.Pieces.{put-same, word-none, word-more, word-all}
+use Rattle.records.specs.Meaning.Lists.{tab}
+use Rattle.text.specs.Model.Put.{Put}
+use Rattle.text.specs.Laws.Pieces.{put-same, word-none, word-more, word-all}
 use Rattle.text.proofs.put_word.Statement.{statement}
 use Rattle.text.proofs.put_word.Tie as tie
 

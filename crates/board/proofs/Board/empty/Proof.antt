@@ -1,6 +1,6 @@
 -- `board::Board::empty` is the empty board. Assumes nothing.
 use mathlib.Core.Path.{refl}
-use Rattle.board.specs.Board.{emptyBoard}
+use Rattle.board.specs.Meaning.Board.{emptyBoard}
 use Rattle.board.proofs.Promises.{empty-promise}
 use Rattle.board.proofs.Board.empty.Statement.{statement}
 use Rattle.board.proofs.Board.empty.Tie as tie

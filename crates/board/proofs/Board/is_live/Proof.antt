@@ -1,6 +1,6 @@
 -- `board::Board::is_live`: the tests in the definition's order. Assumes nothing.
-use Rattle.records.specs.Tests.{said}
-use Rattle.board.specs.Board.{live}
+use Rattle.records.specs.Laws.Tests.{said}
+use Rattle.board.specs.Meaning.Board.{live}
 use borrow.Author.Needs.{needs}
 use Rattle.board.proofs.Board.is_live.Statement.{statement}
 use Rattle.board.proofs.Board.is_live.Tie as tie

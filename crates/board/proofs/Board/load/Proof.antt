@@ -1,10 +1,10 @@
 -- `board::Board::load`: the tests in the definition's order. Assumes nothing.
 use mathlib.Core.Path.{_≡_}
 use mathlib.Core.Bool.{false}
-use Rattle.records.specs.Tests.{said}
-use Rattle.board.specs.Board.{live}
-use Rattle.board.specs.Load.{loadOn}
-use Rattle.tables.specs.Facts.{loadable-head}
+use Rattle.records.specs.Laws.Tests.{said}
+use Rattle.board.specs.Meaning.Board.{live}
+use Rattle.board.specs.Meaning.Load.{loadOn}
+use Rattle.tables.specs.Laws.Facts.{loadable-head}
 use Rattle.board.proofs.Promises.{load-promise}
 use borrow.Author.Needs.{needs}
 use Rattle.board.proofs.Board.load.Statement.{statement}

@@ -6,11 +6,11 @@ use Prim.Native.Nat.{_+_, _<_}
 use lib.ListN.{length}
 use denote.Ref.{now}
 use borrow.Author.Tests.{ne-eqb, eq-eqb}
-use Rattle.records.specs.Tests.{said}
-use Rattle.records.specs.Limits.{Lines, lines-facts}
-use Rattle.records.specs.GuardTable.{entry-inside}
-use Rattle.board.specs.Facts.{Live, live-facts}
-use Rattle.board.specs.Step.{outputAt, nextAt, entryFits, lookedUp}
+use Rattle.records.specs.Laws.Tests.{said}
+use Rattle.records.specs.Laws.Limits.{Lines, lines-facts}
+use Rattle.records.specs.Laws.GuardTable.{entry-inside}
+use Rattle.board.specs.Laws.Facts.{Live, live-facts}
+use Rattle.board.specs.Meaning.Step.{outputAt, nextAt, entryFits, lookedUp}
 use borrow.Author.Needs.{needs}
 use Rattle.board.proofs.Board.look_up.Statement.{statement}
 use Rattle.board.proofs.Board.look_up.Tie as tie

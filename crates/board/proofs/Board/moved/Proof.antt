@@ -2,9 +2,9 @@
 use native.Mathlib.Omega.{arith}
 use native.Mathlib.Nat.{add-zero}
 use mathlib.Core.Logic.{⊎-elim}
-use Rattle.records.specs.Tests.{said}
-use Rattle.board.specs.Step.{moved}
-use Rattle.board.specs.Facts.{Live, live-facts}
+use Rattle.records.specs.Laws.Tests.{said}
+use Rattle.board.specs.Meaning.Step.{moved}
+use Rattle.board.specs.Laws.Facts.{Live, live-facts}
 use borrow.Author.Needs.{needs}
 use Rattle.board.proofs.Board.moved.Statement.{statement}
 use Rattle.board.proofs.Board.moved.Tie as tie

@@ -1,6 +1,6 @@
 -- `board::Board::rewind`: one test. Assumes nothing.
-use Rattle.records.specs.Tests.{said}
-use Rattle.board.specs.Board.{rewindOn}
+use Rattle.records.specs.Laws.Tests.{said}
+use Rattle.board.specs.Meaning.Board.{rewindOn}
 use Rattle.board.proofs.Promises.{rewind-promise}
 use borrow.Author.Needs.{needs}
 use Rattle.board.proofs.Board.rewind.Statement.{statement}

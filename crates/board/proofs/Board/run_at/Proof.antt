@@ -1,6 +1,6 @@
 -- `board::Board::run_at`: three fields changed. Assumes nothing.
 use mathlib.Core.Path.{refl}
-use Rattle.board.specs.Board.{runAt}
+use Rattle.board.specs.Meaning.Board.{runAt}
 use Rattle.board.proofs.Board.run_at.Statement.{statement}
 use Rattle.board.proofs.Board.run_at.Tie as tie
 

@@ -5,11 +5,12 @@ use mathlib.Core.Bool.{true, false}
 use Prim.Native.Nat.{_^_}
 use lib.Dec.{leb, ltb}
 use borrow.Author.Tests.{ltb-true}
-use Rattle.records.specs.Tests.{cases, said-no, said-yes}
-use Rattle.records.specs.Limits.{maxSteps, lines-facts}
-use Rattle.board.specs.Board.{live}
-use Rattle.board.specs.Step.{stepOn}
-use Rattle.board.specs.Facts.{live-facts}
+use Rattle.records.specs.Laws.Tests.{cases, said-no, said-yes}
+use Rattle.records.specs.Meaning.Limits.{maxSteps}
+use Rattle.records.specs.Laws.Limits.{lines-facts}
+use Rattle.board.specs.Meaning.Board.{live}
+use Rattle.board.specs.Meaning.Step.{stepOn}
+use Rattle.board.specs.Laws.Facts.{live-facts}
 use Rattle.board.proofs.Promises.{step-promise}
 use borrow.Author.Needs.{needs}
 use Rattle.board.proofs.Board.step.Statement.{statement}

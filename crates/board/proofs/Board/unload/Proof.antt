@@ -1,6 +1,6 @@
 -- `board::Board::unload`: one test. Assumes nothing.
-use Rattle.records.specs.Tests.{said}
-use Rattle.board.specs.Board.{unloadOn}
+use Rattle.records.specs.Laws.Tests.{said}
+use Rattle.board.specs.Meaning.Board.{unloadOn}
 use Rattle.board.proofs.Promises.{unload-promise}
 use borrow.Author.Needs.{needs}
 use Rattle.board.proofs.Board.unload.Statement.{statement}

@@ -1,5 +1,5 @@
 -- `bytes::layout::board_in`: field by field. Assumes nothing.
-use Rattle.bytes.specs.Layout.{boardIn}
+use Rattle.bytes.specs.Meaning.Board.{boardIn}
 use borrow.Author.Needs.{needs}
 use Rattle.bytes.proofs.layout.board_in.Statement.{statement}
 use Rattle.bytes.proofs.layout.board_in.Tie as tie

@@ -1,5 +1,6 @@
 -- `bytes::layout::put_board`: the fields one after the other fill the slice. Assumes nothing.
-use Rattle.bytes.specs.Layout.{boardBytes, sets-whole}
+use Rattle.bytes.specs.Meaning.Board.{boardBytes}
+use Rattle.bytes.specs.Laws.Board.{sets-whole}
 use borrow.Author.Needs.{needs}
 use Rattle.bytes.proofs.layout.put_board.Statement.{statement}
 use Rattle.bytes.proofs.layout.put_board.Tie as tie

@@ -1,7 +1,7 @@
 -- `bytes::layout::put_u32`: two numbers of two bytes, stored one after the other. Assumes nothing.
 use Prim.Native.Nat.{_/_, _%_}
-use Rattle.records.specs.Lists.{sets-append}
-use Rattle.records.specs.Numbers.{u16Bytes}
+use Rattle.records.specs.Laws.Lists.{sets-append}
+use Rattle.records.specs.Meaning.Numbers.{u16Bytes}
 use borrow.Author.Needs.{needs}
 use Rattle.bytes.proofs.layout.put_u32.Statement.{statement}
 use Rattle.bytes.proofs.layout.put_u32.Tie as tie

@@ -1,5 +1,5 @@
 -- `bytes::layout::u32_at`: two numbers of two bytes. Assumes nothing.
-use Rattle.bytes.specs.Layout.{u32At}
+use Rattle.bytes.specs.Meaning.Board.{u32At}
 use borrow.Author.Needs.{needs}
 use Rattle.bytes.proofs.layout.u32_at.Statement.{statement}
 use Rattle.bytes.proofs.layout.u32_at.Tie as tie

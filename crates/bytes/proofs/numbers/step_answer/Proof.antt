@@ -2,7 +2,7 @@
 use mathlib.Core.Path.{sym, ap, _∙_}
 use Prim.Native.Nat.{_*_}
 use native.Mathlib.Nat.{zero-add}
-use Rattle.bytes.specs.Promises.{stepAnswer}
+use Rattle.bytes.specs.Promises.Calls.{stepAnswer}
 use borrow.Author.Needs.{needs}
 use Rattle.bytes.proofs.numbers.step_answer.Statement.{statement}
 use Rattle.bytes.proofs.numbers.step_answer.Tie as tie

@@ -8,9 +8,9 @@ use borrow.Author.Count.{below-none, below-more}
 use borrow.Author.Needs.{needs}
 use lib.Dec.{eqb}
 use lib.ListN.{getD}
-use Rattle.records.specs.Tests.{cases}
-use Rattle.records.specs.Bounded.{all-of, all-fails}
-use Rattle.fields.specs.Head.{freshLine}
+use Rattle.records.specs.Laws.Tests.{cases}
+use Rattle.records.specs.Laws.Bounded.{all-of, all-fails}
+use Rattle.fields.specs.Meaning.Head.{freshLine}
 use Rattle.fields.proofs.head.fresh_line.Statement.{statement}
 use Rattle.fields.proofs.head.fresh_line.Tie as tie
 

@@ -2,9 +2,9 @@
 use native.Mathlib.Omega.{arith}
 use borrow.Author.Tests.{le-leb}
 use borrow.Author.Needs.{needs}
-use Rattle.records.specs.Tests.{cases, said-no, said-yes}
-use Rattle.fields.specs.Head.{headOk}
-use Rattle.fields.specs.Facts.{numbers-facts}
+use Rattle.records.specs.Laws.Tests.{cases, said-no, said-yes}
+use Rattle.fields.specs.Meaning.Head.{headOk}
+use Rattle.fields.specs.Laws.Facts.{numbers-facts}
 use Rattle.fields.proofs.head.head_ok.Statement.{statement}
 use Rattle.fields.proofs.head.head_ok.Tie as tie
 

@@ -1,7 +1,7 @@
 -- `fields::head::inputs_of`: the tests in the definition's order. Assumes nothing.
 use borrow.Author.Needs.{needs}
-use Rattle.records.specs.Tests.{cases}
-use Rattle.fields.specs.Lines.{inputsOf}
+use Rattle.records.specs.Laws.Tests.{cases}
+use Rattle.fields.specs.Meaning.Lines.{inputsOf}
 use Rattle.fields.proofs.head.inputs_of.Statement.{statement}
 use Rattle.fields.proofs.head.inputs_of.Tie as tie
 

@@ -1,7 +1,7 @@
 -- `fields::head::literal_at`: the tests in the definition's order. Assumes nothing.
 use borrow.Author.Needs.{needs}
-use Rattle.records.specs.Tests.{cases}
-use Rattle.fields.specs.Head.{literalAt}
+use Rattle.records.specs.Laws.Tests.{cases}
+use Rattle.fields.specs.Model.Head.{literalAt}
 use Rattle.fields.proofs.head.literal_at.Statement.{statement}
 use Rattle.fields.proofs.head.literal_at.Tie as tie
 

@@ -5,9 +5,9 @@ use borrow.Author.Tests.{le-ltb}
 use borrow.Author.Needs.{needs}
 use denote.Ref.{now}
 use lib.ListN.{getD}
-use Rattle.records.specs.Tests.{cases}
-use Rattle.records.specs.Limits.{literalEnd}
-use Rattle.fields.specs.Head.{literalOk}
+use Rattle.records.specs.Laws.Tests.{cases}
+use Rattle.records.specs.Meaning.Limits.{literalEnd}
+use Rattle.fields.specs.Meaning.Head.{literalOk}
 use Rattle.fields.proofs.head.literal_ok.Statement.{statement}
 use Rattle.fields.proofs.head.literal_ok.Tie as tie
 

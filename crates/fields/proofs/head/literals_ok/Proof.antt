@@ -6,9 +6,9 @@ use Prim.Native.Nat.{ℕ, _-_, _≤_, _<_}
 use native.Mathlib.Omega.{arith}
 use borrow.Author.Count.{below-none, below-more}
 use borrow.Author.Needs.{needs}
-use Rattle.records.specs.Tests.{said-no, said-yes}
-use Rattle.records.specs.Bounded.{all-of, all-fails}
-use Rattle.fields.specs.Head.{literalOk, literalsOk}
+use Rattle.records.specs.Laws.Tests.{said-no, said-yes}
+use Rattle.records.specs.Laws.Bounded.{all-of, all-fails}
+use Rattle.fields.specs.Meaning.Head.{literalOk, literalsOk}
 use Rattle.fields.proofs.head.literals_ok.Statement.{statement}
 use Rattle.fields.proofs.head.literals_ok.Tie as tie
 

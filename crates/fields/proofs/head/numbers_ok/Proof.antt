@@ -1,7 +1,7 @@
 -- `fields::head::numbers_ok`: the tests in the definition's order. Assumes nothing.
 use borrow.Author.Needs.{needs}
-use Rattle.records.specs.Tests.{cases, said-no, said-yes}
-use Rattle.fields.specs.Head.{numbersOk}
+use Rattle.records.specs.Laws.Tests.{cases, said-no, said-yes}
+use Rattle.fields.specs.Meaning.Head.{numbersOk}
 use Rattle.fields.proofs.head.numbers_ok.Statement.{statement}
 use Rattle.fields.proofs.head.numbers_ok.Tie as tie
 

@@ -1,7 +1,7 @@
 -- `fields::head::site_ok`: the tests in the definition's order. Assumes nothing.
 use borrow.Author.Needs.{needs}
-use Rattle.records.specs.Tests.{cases}
-use Rattle.fields.specs.Head.{siteOk}
+use Rattle.records.specs.Laws.Tests.{cases}
+use Rattle.fields.specs.Meaning.Head.{siteOk}
 use Rattle.fields.proofs.head.site_ok.Statement.{statement}
 use Rattle.fields.proofs.head.site_ok.Tie as tie
 

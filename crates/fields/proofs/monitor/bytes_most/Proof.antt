@@ -8,9 +8,9 @@ use borrow.Author.Count.{below-none, below-more}
 use borrow.Author.Needs.{needs}
 use lib.Dec.{leb}
 use lib.ListN.{getD}
-use Rattle.records.specs.Tests.{cases}
-use Rattle.records.specs.Bounded.{all-of, all-fails}
-use Rattle.fields.specs.Monitor.{bytesMost}
+use Rattle.records.specs.Laws.Tests.{cases}
+use Rattle.records.specs.Laws.Bounded.{all-of, all-fails}
+use Rattle.fields.specs.Meaning.Monitor.{bytesMost}
 use Rattle.fields.proofs.monitor.bytes_most.Statement.{statement}
 use Rattle.fields.proofs.monitor.bytes_most.Tie as tie
 

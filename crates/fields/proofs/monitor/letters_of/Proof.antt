@@ -3,9 +3,9 @@ use Prim.Native.Nat.{_+_}
 use native.Mathlib.Omega.{arith}
 use borrow.Author.Needs.{needs}
 use lib.Pow.{pow-mono}
-use Rattle.records.specs.Tests.{cases}
-use Rattle.records.specs.Limits.{maxLines}
-use Rattle.fields.specs.Lines.{lettersOf}
+use Rattle.records.specs.Laws.Tests.{cases}
+use Rattle.records.specs.Meaning.Limits.{maxLines}
+use Rattle.fields.specs.Meaning.Lines.{lettersOf}
 use Rattle.fields.proofs.monitor.letters_of.Statement.{statement}
 use Rattle.fields.proofs.monitor.letters_of.Tie as tie
 

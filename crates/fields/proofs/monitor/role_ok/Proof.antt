@@ -1,6 +1,6 @@
 -- `fields::monitor::role_ok`: an arm for each role. Assumes nothing.
-use Rattle.records.specs.Tests.{cases}
-use Rattle.fields.specs.Monitor.{roleOk}
+use Rattle.records.specs.Laws.Tests.{cases}
+use Rattle.fields.specs.Meaning.Monitor.{roleOk}
 use Rattle.fields.proofs.monitor.role_ok.Statement.{statement}
 use Rattle.fields.proofs.monitor.role_ok.Tie as tie
 

@@ -4,9 +4,9 @@ use Prim.Native.Nat.{_*_, _≤_}
 use native.Mathlib.Omega.{arith}
 use native.Mathlib.Nat.{mul-le-mul}
 use borrow.Author.Needs.{needs}
-use Rattle.records.specs.Tests.{cases}
-use Rattle.records.specs.Limits.{maxMonitorStates}
-use Rattle.fields.specs.Monitor.{statesOk}
+use Rattle.records.specs.Laws.Tests.{cases}
+use Rattle.records.specs.Meaning.Limits.{maxMonitorStates}
+use Rattle.fields.specs.Meaning.Monitor.{statesOk}
 use Rattle.fields.proofs.monitor.states_ok.Statement.{statement}
 use Rattle.fields.proofs.monitor.states_ok.Tie as tie
 

@@ -4,10 +4,11 @@ use Prim.Native.Nat.{_≤_}
 use native.Mathlib.Omega.{arith}
 use lib.ListN.{length}
 use Rattle.sheet.specs.declared.layout.Verdict.{Verdict}
-use Rattle.rows.specs.Entered.{count-most}
-use Rattle.plan.specs.Planned.{Room, inputs-low, outputs-low, horizon-in-bounds}
-use Rattle.judge.specs.Opening.{Ready, Opens}
-use Rattle.judge.specs.Judged.{layout-short, layout-written}
+use Rattle.rows.specs.Laws.Entered.{count-most}
+use Rattle.plan.specs.Model.Planned.{Room}
+use Rattle.plan.specs.Laws.Planned.{inputs-low, outputs-low, horizon-in-bounds}
+use Rattle.judge.specs.Model.Opening.{Ready, Opens}
+use Rattle.judge.specs.Laws.Judged.{layout-short, layout-written}
 use borrow.Author.Needs.{needs}
 use Rattle.judge.proofs.make.make_with.Statement.{statement}
 use Rattle.judge.proofs.make.make_with.Tie as tie

@@ -5,16 +5,16 @@ use mathlib.Core.List.{List}
 use Prim.Native.Nat.{ℕ}
 use borrow.Author.Tests.{not-true, not-false}
 use Rattle.sheet.specs.declared.layout.Refusal.the-variants.{Unrealizable}
-use Rattle.sheet.specs.Layout.{verdictNumber}
-use Rattle.sheet.specs.Where.{Fits, decoded}
-use Rattle.supervisor.specs.Making.{Judges, Answers}
-use Rattle.supervisor.specs.Judging.{judges-many, answers-short, answers-refused, answers-judged}
-use Rattle.supervisor.specs.Solve.{Solution, Solves}
+use Rattle.sheet.specs.Meaning.Grounds.{verdictNumber}
+use Rattle.sheet.specs.Model.Where.{Fits, decoded}
+use Rattle.supervisor.specs.Model.Making.{Judges, Answers}
+use Rattle.supervisor.specs.Laws.Judging.{judges-many, answers-short, answers-refused, answers-judged}
+use Rattle.supervisor.specs.Model.Solve.{Solution, Solves}
 use Rattle.supervisor.specs.declared.make.Made.{Made}
 use Rattle.supervisor.specs.declared.make.Made.the-variants as made
 use Rattle.supervisor.specs.declared.solve.Solved.{Solved}
-use Rattle.plan.specs.Table.{guardTableOf, statesOf}
-use Rattle.judge.specs.Judged.{solved-lost}
+use Rattle.plan.specs.Model.Table.{guardTableOf, statesOf}
+use Rattle.judge.specs.Laws.Judged.{solved-lost}
 use borrow.Author.Needs.{needs}
 use Rattle.judge.proofs.opening.judge_first.Statement.{statement}
 use Rattle.judge.proofs.opening.judge_first.Tie as tie

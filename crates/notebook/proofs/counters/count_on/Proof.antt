@@ -1,7 +1,7 @@
 -- `notebook::counters::count_on`: its three returns are the definition's. Assumes nothing.
 use native.Mathlib.Omega.{arith}
-use Rattle.records.specs.Tests.{cases}
-use Rattle.notebook.specs.Counters.{countOn}
+use Rattle.records.specs.Laws.Tests.{cases}
+use Rattle.notebook.specs.Model.Counters.{countOn}
 use borrow.Author.Needs.{needs}
 use Rattle.notebook.proofs.counters.count_on.Statement.{statement}
 use Rattle.notebook.proofs.counters.count_on.Tie as tie

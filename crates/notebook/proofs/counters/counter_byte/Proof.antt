@@ -1,6 +1,6 @@
 -- `notebook::counters::counter_byte`: the front, an accept byte or a move. Assumes nothing.
-use Rattle.records.specs.Tests.{cases}
-use Rattle.notebook.specs.Counters.{counterByte}
+use Rattle.records.specs.Laws.Tests.{cases}
+use Rattle.notebook.specs.Model.Counters.{counterByte}
 use borrow.Author.Needs.{needs}
 use Rattle.notebook.proofs.counters.counter_byte.Statement.{statement}
 use Rattle.notebook.proofs.counters.counter_byte.Tie as tie

@@ -1,6 +1,6 @@
 -- `notebook::counters::front_byte`: its four returns are the definition's. Assumes nothing.
-use Rattle.records.specs.Tests.{cases}
-use Rattle.notebook.specs.Counters.{frontByte}
+use Rattle.records.specs.Laws.Tests.{cases}
+use Rattle.notebook.specs.Model.Counters.{frontByte}
 use borrow.Author.Needs.{needs}
 use Rattle.notebook.proofs.counters.front_byte.Statement.{statement}
 use Rattle.notebook.proofs.counters.front_byte.Tie as tie

@@ -1,6 +1,6 @@
 -- `notebook::counters::head_byte`: its five returns are the definition's. Assumes nothing.
-use Rattle.records.specs.Tests.{cases}
-use Rattle.notebook.specs.Counters.{headByte}
+use Rattle.records.specs.Laws.Tests.{cases}
+use Rattle.notebook.specs.Model.Counters.{headByte}
 use Rattle.notebook.proofs.counters.head_byte.Statement.{statement}
 use Rattle.notebook.proofs.counters.head_byte.Tie as tie
 

@@ -4,8 +4,8 @@ use Prim.Native.Nat.{ℕ, _+_, _-_, _≤_}
 use native.Mathlib.Omega.{arith}
 use native.Mathlib.Nat.{zero-add}
 use lib.ListN.{set}
-use Rattle.records.specs.Stores.{Elements, same, none, more, all}
-use Rattle.notebook.specs.Counters.{sheetByte, sheetBytes, length-sheet}
+use Rattle.records.specs.Laws.Stores.{Elements, same, none, more, all}
+use Rattle.notebook.specs.Model.Counters.{sheetByte, sheetBytes, length-sheet}
 use Rattle.notebook.proofs.counters.put_sheet.Statement.{statement}
 use Rattle.notebook.proofs.counters.put_sheet.Tie as tie
 

@@ -1,6 +1,6 @@
 -- `notebook::counters::sheet_byte`: a byte of the head or of one of the counters. Assumes nothing.
-use Rattle.records.specs.Tests.{cases}
-use Rattle.notebook.specs.Counters.{sheetByte}
+use Rattle.records.specs.Laws.Tests.{cases}
+use Rattle.notebook.specs.Model.Counters.{sheetByte}
 use borrow.Author.Needs.{needs}
 use Rattle.notebook.proofs.counters.sheet_byte.Statement.{statement}
 use Rattle.notebook.proofs.counters.sheet_byte.Tie as tie

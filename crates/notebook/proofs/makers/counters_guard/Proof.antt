@@ -4,9 +4,9 @@ use mathlib.Core.List.{List}
 use Prim.Native.Nat.{ℕ}
 use native.Mathlib.Omega.{arith}
 use lib.ListN.{length}
-use Rattle.guard.specs.Table.{guardTableOf}
-use Rattle.guard.specs.Promises.{guardStates}
-use Rattle.notebook.specs.Counters.{sheetBytes, Answered}
+use Rattle.guard.specs.Model.Table.{guardTableOf}
+use Rattle.guard.specs.Promises.Guard.{guardStates}
+use Rattle.notebook.specs.Model.Counters.{sheetBytes, Answered}
 use Rattle.notebook.proofs.Answers.{zeros-length, Written, written}
 use Rattle.notebook.proofs.makers.counters_guard.Statement.{statement}
 use Rattle.notebook.proofs.makers.counters_guard.Tie as tie

@@ -4,9 +4,9 @@ use mathlib.Core.List.{List}
 use Prim.Native.Nat.{ℕ}
 use native.Mathlib.Omega.{arith}
 use lib.ListN.{length}
-use Rattle.product.specs.Numbered.{stateCount}
-use Rattle.supervisor.specs.Table.{supervisorTable}
-use Rattle.notebook.specs.Counters.{sheetBytes, Answered}
+use Rattle.product.specs.Model.Numbered.{stateCount}
+use Rattle.supervisor.specs.Model.Table.{supervisorTable}
+use Rattle.notebook.specs.Model.Counters.{sheetBytes, Answered}
 use Rattle.notebook.proofs.Answers.{zeros-length, Written, written}
 use Rattle.notebook.proofs.makers.counters_supervisor.Statement.{statement}
 use Rattle.notebook.proofs.makers.counters_supervisor.Tie as tie

@@ -1,17 +1,18 @@
 -- `plan::gains::fill_bonuses`: the bonuses of the letters before l are stored. Assumes nothing.
-use Rattle.sheet.specs.Facts.{site-most, outputs-most}
+use Rattle.sheet.specs.Laws.Facts.{site-most, outputs-most}
 use mathlib.Core.Path.{_≡_, sym, ap₂, _∙_}
 use mathlib.Core.List.{List, []}
 use Prim.Native.Nat.{ℕ, _-_, _*_, _/_, _%_, _≤_}
 use native.Mathlib.Omega.{arith}
 use lib.ListN.{length, set}
 use borrow.Author.Needs.{needs}
-use Rattle.records.specs.Lists.{put, put-none, put-more, length-put}
-use Rattle.sheet.specs.Where.{decoded}
+use Rattle.records.specs.Model.Lists.{put}
+use Rattle.records.specs.Laws.Lists.{put-none, put-more, length-put}
+use Rattle.sheet.specs.Model.Where.{decoded}
 use Rattle.sheet.specs.declared.layout.Sheet.{Sheet}
-use Rattle.product.specs.Rewards.{match-most}
-use Rattle.plan.specs.Table.{bonusOf}
-use Rattle.plan.specs.Solved.{bonus-match}
+use Rattle.product.specs.Laws.Rewards.{match-most}
+use Rattle.plan.specs.Model.Table.{bonusOf}
+use Rattle.plan.specs.Laws.Solved.{bonus-match}
 use Rattle.plan.proofs.gains.fill_bonuses.Statement.{statement}
 use Rattle.plan.proofs.gains.fill_bonuses.Tie as tie
 

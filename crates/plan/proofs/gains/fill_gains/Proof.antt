@@ -5,12 +5,14 @@ use Prim.Native.Nat.{ℕ, _-_, _≤_}
 use native.Mathlib.Omega.{arith}
 use lib.ListN.{length, set}
 use borrow.Author.Needs.{needs}
-use Rattle.records.specs.Lists.{put, put-none, put-more, length-put}
-use Rattle.sheet.specs.Where.{decoded}
+use Rattle.records.specs.Model.Lists.{put}
+use Rattle.records.specs.Laws.Lists.{put-none, put-more, length-put}
+use Rattle.sheet.specs.Model.Where.{decoded}
 use Rattle.sheet.specs.declared.layout.Sheet.{Sheet}
-use Rattle.product.specs.Step.{InRange, softReward, weightOf}
-use Rattle.product.specs.States.{tupleAt}
-use Rattle.product.specs.Rewards.{soft-most}
+use Rattle.product.specs.Model.Range.{InRange}
+use Rattle.product.specs.Meaning.Step.{softReward, weightOf}
+use Rattle.product.specs.Model.States.{tupleAt}
+use Rattle.product.specs.Laws.Rewards.{soft-most}
 use Rattle.plan.proofs.gains.fill_gains.Statement.{statement}
 use Rattle.plan.proofs.gains.fill_gains.Tie as tie
 

@@ -1,7 +1,7 @@
 -- `records::clear::clear16`: the front that is the whole. Assumes nothing.
 use mathlib.Core.Path.{_∙_}
 use borrow.Author.Needs.{needs}
-use Rattle.records.specs.Lists.{put-replicate}
+use Rattle.records.specs.Laws.Lists.{put-replicate}
 use Rattle.records.proofs.clear.clear16.Statement.{statement}
 use Rattle.records.proofs.clear.clear16.Tie as tie
 

@@ -3,7 +3,8 @@ use mathlib.Core.Path.{_≡_, sym, _∙_}
 use Prim.Native.Nat.{_-_, _≤_}
 use native.Mathlib.Omega.{arith}
 use borrow.Author.Needs.{needs}
-use Rattle.records.specs.Lists.{put, put-none, put-more, length-put}
+use Rattle.records.specs.Model.Lists.{put}
+use Rattle.records.specs.Laws.Lists.{put-none, put-more, length-put}
 use Rattle.records.proofs.clear.clear_front16.Statement.{statement}
 use Rattle.records.proofs.clear.clear_front16.Tie as tie
 

@@ -2,8 +2,8 @@
 use native.Mathlib.Omega.{arith}
 use native.Mathlib.Nat.{mul-le-mul}
 use borrow.Author.Needs.{needs}
-use Rattle.records.specs.Tests.{cases}
-use Rattle.records.specs.Limits.{maxHorizon, horizonOk}
+use Rattle.records.specs.Laws.Tests.{cases}
+use Rattle.records.specs.Meaning.Limits.{maxHorizon, horizonOk}
 use Rattle.records.proofs.limits.horizon_ok.Statement.{statement}
 use Rattle.records.proofs.limits.horizon_ok.Tie as tie
 

@@ -1,6 +1,6 @@
 -- `records::limits::lines_ok`: the tests in the definition's order. Assumes nothing.
-use Rattle.records.specs.Tests.{cases}
-use Rattle.records.specs.Limits.{linesOk}
+use Rattle.records.specs.Laws.Tests.{cases}
+use Rattle.records.specs.Meaning.Limits.{linesOk}
 use borrow.Author.Needs.{needs}
 use Rattle.records.proofs.limits.lines_ok.Statement.{statement}
 use Rattle.records.proofs.limits.lines_ok.Tie as tie

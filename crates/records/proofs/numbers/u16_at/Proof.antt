@@ -1,7 +1,7 @@
 -- `records::numbers::u16_at`: each of the two is a byte, so their number fits. Assumes nothing.
 use Prim.Native.Nat.{_+_}
 use native.Mathlib.Omega.{arith}
-use Rattle.records.specs.Numbers.{u16At}
+use Rattle.records.specs.Meaning.Numbers.{u16At}
 use borrow.Author.Needs.{needs}
 use Rattle.records.proofs.numbers.u16_at.Statement.{statement}
 use Rattle.records.proofs.numbers.u16_at.Tie as tie

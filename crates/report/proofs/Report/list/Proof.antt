@@ -6,10 +6,10 @@ use Prim.Native.Nat.{ℕ, _≤_}
 use native.Mathlib.Omega.{arith}
 use lib.ListN.{length}
 use denote.Ref.{now}
-use Rattle.records.specs.Tests.{said-no, said-yes}
-use Rattle.tables.specs.Loadable.{loadable}
-use Rattle.text.specs.Listing.{listingOf}
-use Rattle.report.specs.Laws.{writes-text, writes-short, writes-no-table, loadable-filled}
+use Rattle.records.specs.Laws.Tests.{said-no, said-yes}
+use Rattle.tables.specs.Meaning.Loadable.{loadable}
+use Rattle.text.specs.Meaning.Listing.{listingOf}
+use Rattle.report.specs.Laws.Answers.{writes-text, writes-short, writes-no-table, loadable-filled}
 use borrow.Author.Needs.{needs}
 use Rattle.report.proofs.Report.list.Statement.{statement}
 use Rattle.report.proofs.Report.list.Tie as tie

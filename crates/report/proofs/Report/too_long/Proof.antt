@@ -1,9 +1,9 @@
 -- `report::Report::too_long`: 9, then the line. Assumes nothing.
 use mathlib.Core.Path.{refl}
 use native.Mathlib.Omega.{arith}
-use Rattle.text.specs.Listing.{tooLongText}
-use Rattle.text.specs.Pieces.{put-as}
-use Rattle.report.specs.Laws.{writes-text, writes-short}
+use Rattle.text.specs.Meaning.Listing.{tooLongText}
+use Rattle.text.specs.Laws.Pieces.{put-as}
+use Rattle.report.specs.Laws.Answers.{writes-text, writes-short}
 use borrow.Author.Needs.{needs}
 use Rattle.report.proofs.Report.too_long.Statement.{statement}
 use Rattle.report.proofs.Report.too_long.Tie as tie

@@ -4,10 +4,10 @@ use Prim.Native.Nat.{ℕ, _+_, _-_, _*_, _≤_, _<_}
 use native.Mathlib.Omega.{arith}
 use lib.Arith.{digits-lt}
 use lib.ListN.{length, length-set, getD}
-use Rattle.values.specs.Guard.{chosen}
-use Rattle.values.specs.Numbered.{stepsOf}
-use Rattle.records.specs.Stores.{Blocks, no-block, same-blocks, more-blocks, all-blocks}
-use Rattle.rows.specs.Entered.{numbered, entryBy}
+use Rattle.values.specs.Model.Guard.{chosen}
+use Rattle.values.specs.Model.Numbered.{stepsOf}
+use Rattle.records.specs.Laws.Stores.{Blocks, no-block, same-blocks, more-blocks, all-blocks}
+use Rattle.rows.specs.Model.Entered.{numbered, entryBy}
 use Rattle.rows.proofs.Stores.{pair-stored}
 use Rattle.rows.proofs.table.put_entries.Statement.{statement}
 use Rattle.rows.proofs.table.put_entries.Tie as tie

@@ -4,8 +4,8 @@ use mathlib.Core.List.{_∷_, _++_}
 use native.Mathlib.Omega.{arith}
 use lib.ListN.{length, length-set}
 use lib.Seq.{length-sets}
-use Rattle.records.specs.Numbers.{u16Bytes}
-use Rattle.records.specs.Cursor.{header}
+use Rattle.records.specs.Meaning.Numbers.{u16Bytes}
+use Rattle.records.specs.Meaning.Records.{header}
 use borrow.Author.Needs.{needs}
 use Rattle.rows.proofs.table.put_head.Statement.{statement}
 use Rattle.rows.proofs.table.put_head.Tie as tie

@@ -1,9 +1,9 @@
 -- `rows::table::put_row`: the header and the entries, one after the other. Assumes nothing.
 use Prim.Native.Nat.{_≤_}
 use native.Mathlib.Omega.{arith}
-use Rattle.values.specs.Guard.{chosen}
-use Rattle.values.specs.Numbered.{stepsOf}
-use Rattle.rows.specs.Entered.{numbered}
+use Rattle.values.specs.Model.Guard.{chosen}
+use Rattle.values.specs.Model.Numbered.{stepsOf}
+use Rattle.rows.specs.Model.Entered.{numbered}
 use Rattle.rows.proofs.Stores.{row-stored, row-size, inputs-few}
 use borrow.Author.Needs.{needs}
 use Rattle.rows.proofs.table.put_row.Statement.{statement}

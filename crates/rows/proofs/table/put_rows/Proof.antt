@@ -3,11 +3,12 @@ use mathlib.Core.Path.{_≡_, sym, _∙_}
 use Prim.Native.Nat.{ℕ, _+_, _-_, _*_, _≤_}
 use native.Mathlib.Omega.{arith}
 use lib.ListN.{length, getD}
-use Rattle.records.specs.Layout.{rowLength}
-use Rattle.records.specs.GuardTable.{length-row}
-use Rattle.values.specs.Numbered.{stepsOf}
-use Rattle.records.specs.Stores.{Blocks, no-block, same-blocks, more-blocks, all-blocks}
-use Rattle.rows.specs.Entered.{rowBy, count-most, entered}
+use Rattle.records.specs.Meaning.GuardTable.{rowLength}
+use Rattle.records.specs.Laws.GuardTable.{length-row}
+use Rattle.values.specs.Model.Numbered.{stepsOf}
+use Rattle.records.specs.Laws.Stores.{Blocks, no-block, same-blocks, more-blocks, all-blocks}
+use Rattle.rows.specs.Model.Entered.{rowBy}
+use Rattle.rows.specs.Laws.Entered.{count-most, entered}
 use Rattle.rows.proofs.Stores.{row-inside}
 use Rattle.rows.proofs.table.put_rows.Statement.{statement}
 use Rattle.rows.proofs.table.put_rows.Tie as tie

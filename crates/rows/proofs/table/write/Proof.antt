@@ -1,8 +1,8 @@
 -- `rows::table::write`: the head and the rows, one after the other. Assumes nothing.
 use native.Mathlib.Omega.{arith}
-use Rattle.records.specs.Layout.{tableLength}
-use Rattle.values.specs.Numbered.{stepsOf}
-use Rattle.rows.specs.Entered.{count-most}
+use Rattle.records.specs.Meaning.GuardTable.{tableLength}
+use Rattle.values.specs.Model.Numbered.{stepsOf}
+use Rattle.rows.specs.Laws.Entered.{count-most}
 use Rattle.rows.proofs.Stores.{table-stored}
 use borrow.Author.Needs.{needs}
 use Rattle.rows.proofs.table.write.Statement.{statement}

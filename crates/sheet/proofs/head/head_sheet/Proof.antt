@@ -1,6 +1,6 @@
 -- `sheet::head::head_sheet`: the fields where they stand. Assumes nothing.
 use borrow.Author.Needs.{needs}
-use Rattle.sheet.specs.Head.{headSheet}
+use Rattle.sheet.specs.Model.Head.{headSheet}
 use Rattle.sheet.proofs.head.head_sheet.Statement.{statement}
 use Rattle.sheet.proofs.head.head_sheet.Tie as tie
 

@@ -7,11 +7,11 @@ use native.Mathlib.Omega.{arith}
 use borrow.Author.Needs.{needs}
 use denote.Ref.{now}
 use lib.ListN.{getD}
-use Rattle.records.specs.Tests.{said-no, said-yes}
-use Rattle.sheet.specs.Decoded.{inputsOf}
-use Rattle.fields.specs.Head.{headOk}
-use Rattle.sheet.specs.Head.{readHead}
-use Rattle.fields.specs.Facts.{Numbers, head-facts}
+use Rattle.records.specs.Laws.Tests.{said-no, said-yes}
+use Rattle.sheet.specs.Meaning.Decoded.{inputsOf}
+use Rattle.fields.specs.Meaning.Head.{headOk}
+use Rattle.sheet.specs.Model.Head.{readHead}
+use Rattle.fields.specs.Laws.Facts.{Numbers, head-facts}
 use Rattle.sheet.proofs.head.read_head.Statement.{statement}
 use Rattle.sheet.proofs.head.read_head.Tie as tie
 

@@ -1,7 +1,7 @@
 -- `sheet::reader::read`: the answer is the model's, whose promises are laws; a slice of u8 holds bytes. Assumes nothing.
 use native.Mathlib.Omega.{arith}
 use borrow.Author.Needs.{needs}
-use Rattle.sheet.specs.Laws.{reads-as}
+use Rattle.sheet.specs.Laws.Reading.{reads-as}
 use Rattle.sheet.proofs.reader.read.Statement.{statement}
 use Rattle.sheet.proofs.reader.read.Tie as tie
 

@@ -7,10 +7,11 @@ use borrow.Author.Tests.{eq-eqb, ne-eqb}
 use borrow.Author.Needs.{needs}
 use denote.Ref.{now}
 use lib.Dec.{eqb}
-use Rattle.records.specs.Tests.{said}
-use Rattle.records.specs.Cursor.{readAt, lies}
+use Rattle.records.specs.Laws.Tests.{said}
+use Rattle.records.specs.Meaning.Records.{readAt}
+use Rattle.records.specs.Laws.Cursor.{lies}
 use Rattle.records.specs.declared.cursor.Found.the-variants as found
-use Rattle.sheet.specs.Reader.{reading, firstFound}
+use Rattle.sheet.specs.Model.Reader.{reading, firstFound}
 use Rattle.sheet.proofs.Walk.{head-lines}
 use Rattle.sheet.proofs.reader.read_in_turn.Statement.{statement}
 use Rattle.sheet.proofs.reader.read_in_turn.Tie as tie

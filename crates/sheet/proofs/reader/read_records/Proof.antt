@@ -6,9 +6,10 @@ use native.Mathlib.Omega.{arith}
 use borrow.Author.Needs.{needs}
 use denote.Ref.{now}
 use lib.ListN.{length}
-use Rattle.records.specs.Cursor.{readAt, lies}
+use Rattle.records.specs.Meaning.Records.{readAt}
+use Rattle.records.specs.Laws.Cursor.{lies}
 use Rattle.records.specs.declared.cursor.Found.the-variants as found
-use Rattle.records.specs.Tests.{said}
+use Rattle.records.specs.Laws.Tests.{said}
 use Rattle.sheet.proofs.Walk.{Walked, begin, ended, cut, stopped, more}
 use Rattle.sheet.proofs.reader.read_records.Statement.{statement}
 use Rattle.sheet.proofs.reader.read_records.Tie as tie

@@ -1,7 +1,7 @@
 -- `sheet::reader::take_record`: an arm for kind 2, one for the rest. Assumes nothing.
 use borrow.Author.Needs.{needs}
-use Rattle.records.specs.Tests.{cases}
-use Rattle.sheet.specs.Reader.{takeRecord}
+use Rattle.records.specs.Laws.Tests.{cases}
+use Rattle.sheet.specs.Model.Reader.{takeRecord}
 use Rattle.sheet.proofs.reader.take_record.Statement.{statement}
 use Rattle.sheet.proofs.reader.take_record.Tie as tie
 

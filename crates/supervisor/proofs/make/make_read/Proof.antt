@@ -4,15 +4,15 @@ use Prim.Native.Nat.{_≤_}
 use native.Mathlib.Omega.{arith}
 use lib.ListN.{length}
 use borrow.Author.Tests.{not-true, not-false}
-use Rattle.sheet.specs.Decoded.{Decoded}
-use Rattle.sheet.specs.Where.{decoded}
-use Rattle.product.specs.Numbered.{stateCount}
-use Rattle.masks.specs.Rows.{tableLength}
-use Rattle.supervisor.specs.Table.{supervisorTable}
-use Rattle.supervisor.specs.Solve.{Solution, Solves}
-use Rattle.supervisor.specs.Solving.{layout-steps}
-use Rattle.supervisor.specs.Judging.{judges-many}
-use Rattle.supervisor.specs.Written.{solved-lost}
+use Rattle.sheet.specs.Meaning.Decoded.{Decoded}
+use Rattle.sheet.specs.Model.Where.{decoded}
+use Rattle.product.specs.Model.Numbered.{stateCount}
+use Rattle.masks.specs.Model.Rows.{tableLength}
+use Rattle.supervisor.specs.Model.Table.{supervisorTable}
+use Rattle.supervisor.specs.Model.Solve.{Solution, Solves}
+use Rattle.supervisor.specs.Laws.Solving.{layout-steps}
+use Rattle.supervisor.specs.Laws.Judging.{judges-many}
+use Rattle.supervisor.specs.Laws.Written.{solved-lost}
 use Rattle.supervisor.specs.declared.solve.Solved.{Solved}
 use Rattle.supervisor.proofs.Layouts.{inputs-low, outputs-low, few-inputs, few-outputs, layout-short, layout-written}
 use borrow.Author.Needs.{needs}

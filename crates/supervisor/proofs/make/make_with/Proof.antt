@@ -3,12 +3,12 @@ use mathlib.Core.Path.{_≡_, ap}
 use mathlib.Core.Bool.{true}
 use native.Mathlib.Omega.{arith}
 use lib.ListN.{length}
-use Rattle.sheet.specs.Layout.{verdictNumber}
-use Rattle.product.specs.Numbered.{stateCount}
-use Rattle.supervisor.specs.Table.{supervisorTable}
-use Rattle.supervisor.specs.Promises.{workOk}
-use Rattle.supervisor.specs.Judging.{answers-short, answers-refused, answers-judged}
-use Rattle.supervisor.specs.Written.{work-long, short-tuples, short-cells, short-dropped}
+use Rattle.sheet.specs.Meaning.Grounds.{verdictNumber}
+use Rattle.product.specs.Model.Numbered.{stateCount}
+use Rattle.supervisor.specs.Model.Table.{supervisorTable}
+use Rattle.supervisor.specs.Promises.Supervisor.{workOk}
+use Rattle.supervisor.specs.Laws.Judging.{answers-short, answers-refused, answers-judged}
+use Rattle.supervisor.specs.Laws.Written.{work-long, short-tuples, short-cells, short-dropped}
 use borrow.Author.Needs.{needs}
 use Rattle.supervisor.proofs.make.make_with.Statement.{statement}
 use Rattle.supervisor.proofs.make.make_with.Tie as tie

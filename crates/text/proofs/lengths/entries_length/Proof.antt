@@ -6,10 +6,10 @@ use native.Mathlib.Omega.{arith}
 use lib.ListN.{length}
 use lib.Pow.{pow-mono}
 use borrow.Author.Needs.{needs}
-use Rattle.records.specs.Lists.{cat}
-use Rattle.text.specs.Listing.{entryOf}
-use Rattle.text.specs.Pieces.{entry-found}
-use Rattle.text.specs.Lengths.{length-none, length-more}
+use Rattle.records.specs.Meaning.Lists.{cat}
+use Rattle.text.specs.Meaning.Listing.{entryOf}
+use Rattle.text.specs.Laws.Pieces.{entry-found}
+use Rattle.text.specs.Laws.Lengths.{length-none, length-more}
 use Rattle.text.proofs.lengths.entries_length.Statement.{statement}
 use Rattle.text.proofs.lengths.entries_length.Tie as tie
 

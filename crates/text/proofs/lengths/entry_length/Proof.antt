@@ -1,7 +1,7 @@
 -- `text::lengths::entry_length`: a sum. Assumes nothing.
 use native.Mathlib.Omega.{arith}
 use borrow.Author.Needs.{needs}
-use Rattle.text.specs.Lengths.{length-entry}
+use Rattle.text.specs.Laws.Lengths.{length-entry}
 use Rattle.text.proofs.lengths.entry_length.Statement.{statement}
 use Rattle.text.proofs.lengths.entry_length.Tie as tie
 

@@ -1,6 +1,6 @@
 -- `text::lengths::head_length`: a sum. Assumes nothing.
 use native.Mathlib.Omega.{arith}
-use Rattle.text.specs.Lengths.{length-head}
+use Rattle.text.specs.Laws.Lengths.{length-head}
 use borrow.Author.Needs.{needs}
 use Rattle.text.proofs.lengths.head_length.Statement.{statement}
 use Rattle.text.proofs.lengths.head_length.Tie as tie

@@ -1,6 +1,6 @@
 -- `text::lengths::listing_length`: the first line, and the lines of the states. Assumes nothing.
 use native.Mathlib.Omega.{arith}
-use Rattle.text.specs.Lengths.{length-listing}
+use Rattle.text.specs.Laws.Lengths.{length-listing}
 use borrow.Author.Needs.{needs}
 use Rattle.text.proofs.lengths.listing_length.Statement.{statement}
 use Rattle.text.proofs.lengths.listing_length.Tie as tie

@@ -4,8 +4,8 @@ use mathlib.Core.Path.{_≡_, refl}
 use Prim.Native.Nat.{_+_, _≤_}
 use native.Mathlib.Omega.{arith}
 use lib.ListN.{length}
-use Rattle.text.specs.Listing.{decimal}
-use Rattle.text.specs.Digits.{one-digit, three-most, digits-more}
+use Rattle.text.specs.Meaning.Listing.{decimal}
+use Rattle.text.specs.Laws.Digits.{one-digit, three-most, digits-more}
 use Rattle.text.proofs.lengths.number_length.Statement.{statement}
 use Rattle.text.proofs.lengths.number_length.Tie as tie
 

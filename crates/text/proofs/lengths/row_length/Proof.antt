@@ -1,6 +1,6 @@
 -- `text::lengths::row_length`: a sum. Assumes nothing.
 use native.Mathlib.Omega.{arith}
-use Rattle.text.specs.Lengths.{length-row}
+use Rattle.text.specs.Laws.Lengths.{length-row}
 use borrow.Author.Needs.{needs}
 use Rattle.text.proofs.lengths.row_length.Statement.{statement}
 use Rattle.text.proofs.lengths.row_length.Tie as tie

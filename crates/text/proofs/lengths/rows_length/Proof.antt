@@ -4,9 +4,9 @@ use mathlib.Core.List.{List}
 use Prim.Native.Nat.{ℕ, _-_, _*_, _≤_}
 use native.Mathlib.Omega.{arith}
 use lib.ListN.{length}
-use Rattle.records.specs.Lists.{cat}
-use Rattle.text.specs.Listing.{rowOf}
-use Rattle.text.specs.Lengths.{length-none, length-more}
+use Rattle.records.specs.Meaning.Lists.{cat}
+use Rattle.text.specs.Meaning.Listing.{rowOf}
+use Rattle.text.specs.Laws.Lengths.{length-none, length-more}
 use Rattle.text.proofs.lengths.rows_length.Statement.{statement}
 use Rattle.text.proofs.lengths.rows_length.Tie as tie
 

@@ -5,11 +5,12 @@ use Prim.Native.Nat.{_+_, _*_, _-_, _≤_, _<_}
 use lib.ListN.{length}
 use native.Mathlib.Omega.{arith}
 use borrow.Author.Needs.{needs}
-use Rattle.records.specs.Tests.{said}
-use Rattle.rounds.specs.Rounds.{cellAt}
-use Rattle.rounds.specs.Cells.{InRow, Leads, in-row, leads-at}
-use Rattle.values.specs.Values.{Game}
-use Rattle.values.specs.Sizes.{gameOf, steps-of, entered, letter-low}
+use Rattle.records.specs.Laws.Tests.{said}
+use Rattle.rounds.specs.Model.Rounds.{cellAt}
+use Rattle.rounds.specs.Laws.Cells.{InRow, Leads, in-row, leads-at}
+use Rattle.values.specs.Model.Values.{Game}
+use Rattle.values.specs.Model.Sizes.{gameOf}
+use Rattle.values.specs.Laws.Sizes.{steps-of, entered, letter-low}
 use Rattle.values.proofs.Best.{scorable}
 use Rattle.values.proofs.Leading.{leading, lead-begin, lead-more, lead-same, lead-low, lead-end}
 use Rattle.values.proofs.choice.choose_output.Statement.{statement}

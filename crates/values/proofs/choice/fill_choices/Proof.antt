@@ -3,11 +3,12 @@ use mathlib.Core.Path.{_≡_, sym, _∙_}
 use Prim.Native.Nat.{_*_, _/_, _%_, _-_, _≤_, _<_}
 use native.Mathlib.Nat.{mod-lt, div-lt-iff-lt-mul}
 use native.Mathlib.Omega.{arith}
-use Rattle.records.specs.Lists.{put, put-none, put-more, length-put}
-use Rattle.values.specs.Values.{choices}
-use Rattle.values.specs.Sizes.{gameOf}
-use Rattle.values.specs.Leaders.{literalsOf}
-use Rattle.values.specs.Choices.{choiceAt}
+use Rattle.records.specs.Model.Lists.{put}
+use Rattle.records.specs.Laws.Lists.{put-none, put-more, length-put}
+use Rattle.values.specs.Model.Values.{choices}
+use Rattle.values.specs.Model.Sizes.{gameOf}
+use Rattle.values.specs.Model.Leaders.{literalsOf}
+use Rattle.values.specs.Laws.Choices.{choiceAt}
 use Rattle.values.proofs.choice.fill_choices.Statement.{statement}
 use Rattle.values.proofs.choice.fill_choices.Tie as tie
 

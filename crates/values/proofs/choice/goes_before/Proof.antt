@@ -1,6 +1,6 @@
 -- `values::choice::goes_before`: a larger score, the same score, a smaller one. Assumes nothing.
-use Rattle.records.specs.Tests.{cases}
-use Rattle.values.specs.Leaders.{goesBefore}
+use Rattle.records.specs.Laws.Tests.{cases}
+use Rattle.values.specs.Model.Leaders.{goesBefore}
 use Rattle.values.proofs.choice.goes_before.Statement.{statement}
 use Rattle.values.proofs.choice.goes_before.Tie as tie
 

@@ -2,8 +2,8 @@
 use Prim.Native.Nat.{_%_}
 use native.Mathlib.Omega.{arith}
 use lib.Pow.{pow-pos}
-use Rattle.records.specs.Tests.{cases}
-use Rattle.values.specs.Order.{holds}
+use Rattle.records.specs.Laws.Tests.{cases}
+use Rattle.values.specs.Meaning.Order.{holds}
 use borrow.Author.Needs.{needs}
 use Rattle.values.proofs.order.holds.Statement.{statement}
 use Rattle.values.proofs.order.holds.Tie as tie

@@ -4,9 +4,9 @@ use mathlib.Core.Logic.{⊎-elim}
 use Prim.Native.Nat.{_-_, _≤_, _<_}
 use native.Mathlib.Omega.{arith}
 use borrow.Author.Needs.{needs}
-use Rattle.records.specs.Tests.{said}
-use Rattle.values.specs.Order.{rankBy}
-use Rattle.values.specs.Ranks.{rank-none, rank-more, rank-small}
+use Rattle.records.specs.Laws.Tests.{said}
+use Rattle.values.specs.Model.Rank.{rankBy}
+use Rattle.values.specs.Laws.Ranks.{rank-none, rank-more, rank-small}
 use Rattle.values.proofs.order.rank_of.Statement.{statement}
 use Rattle.values.proofs.order.rank_of.Tie as tie
 

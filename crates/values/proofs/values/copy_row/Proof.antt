@@ -4,7 +4,8 @@ use Prim.Native.Nat.{_-_, _≤_}
 use native.Mathlib.Omega.{arith}
 use borrow.Author.Needs.{needs}
 use lib.ListN.{getD}
-use Rattle.records.specs.Lists.{put, put-none, put-more, length-put}
+use Rattle.records.specs.Model.Lists.{put}
+use Rattle.records.specs.Laws.Lists.{put-none, put-more, length-put}
 use Rattle.values.proofs.values.copy_row.Statement.{statement}
 use Rattle.values.proofs.values.copy_row.Tie as tie
 

@@ -4,7 +4,7 @@ use Prim.Native.Nat.{_+_, _*_, _^_, _≤_}
 use lib.ListN.{getD}
 use native.Mathlib.Omega.{arith}
 use native.Mathlib.Nat.{mul-le-mul}
-use Rattle.values.specs.Sizes.{scoreAt}
+use Rattle.values.specs.Model.Sizes.{scoreAt}
 use borrow.Author.Needs.{needs}
 use Rattle.values.proofs.values.score_of.Statement.{statement}
 use Rattle.values.proofs.values.score_of.Tie as tie

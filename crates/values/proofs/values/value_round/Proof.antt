@@ -3,9 +3,10 @@ use mathlib.Core.Path.{_≡_, sym, _∙_}
 use Prim.Native.Nat.{_-_, _≤_}
 use native.Mathlib.Omega.{arith}
 use borrow.Author.Needs.{needs}
-use Rattle.records.specs.Lists.{put, put-none, put-more, length-put}
-use Rattle.values.specs.Values.{worth}
-use Rattle.values.specs.Sizes.{gameOf}
+use Rattle.records.specs.Model.Lists.{put}
+use Rattle.records.specs.Laws.Lists.{put-none, put-more, length-put}
+use Rattle.values.specs.Model.Values.{worth}
+use Rattle.values.specs.Model.Sizes.{gameOf}
 use Rattle.values.proofs.values.value_round.Statement.{statement}
 use Rattle.values.proofs.values.value_round.Tie as tie
 

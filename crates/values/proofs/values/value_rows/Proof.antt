@@ -3,8 +3,8 @@ use mathlib.Core.Path.{_≡_, _∙_}
 use Prim.Native.Nat.{_-_, _≤_}
 use lib.ListN.{length}
 use native.Mathlib.Omega.{arith}
-use Rattle.values.specs.Values.{Game}
-use Rattle.values.specs.Sizes.{gameOf}
+use Rattle.values.specs.Model.Values.{Game}
+use Rattle.values.specs.Model.Sizes.{gameOf}
 use Rattle.values.proofs.Iterating.{Iterated, Fits, begin, same, valued, words-most, more, end}
 use Rattle.values.proofs.values.value_rows.Statement.{statement}
 use Rattle.values.proofs.values.value_rows.Tie as tie

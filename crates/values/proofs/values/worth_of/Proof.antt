@@ -2,10 +2,10 @@
 use mathlib.Core.Path.{_≡_, sym, _∙_}
 use Prim.Native.Nat.{_-_, _≤_}
 use native.Mathlib.Omega.{arith}
-use Rattle.records.specs.Bounded.{sum-none}
-use Rattle.records.specs.Tests.{said-no, said-yes}
-use Rattle.values.specs.Values.{Game}
-use Rattle.values.specs.Sizes.{gameOf}
+use Rattle.records.specs.Laws.Bounded.{sum-none}
+use Rattle.records.specs.Laws.Tests.{said-no, said-yes}
+use Rattle.values.specs.Model.Values.{Game}
+use Rattle.values.specs.Model.Sizes.{gameOf}
 use Rattle.values.proofs.Best.{summed, summed-more, worth-lost, worth-kept}
 use Rattle.values.proofs.values.worth_of.Statement.{statement}
 use Rattle.values.proofs.values.worth_of.Tie as tie

@@ -3,12 +3,13 @@ use mathlib.Core.Path.{sym, ap, _∙_, subst}
 use mathlib.Core.Bool.{Bool}
 use native.Mathlib.Omega.{arith}
 use lib.ListN.{length}
-use Rattle.records.specs.Numbers.{zeros}
-use Rattle.supervisor.specs.Making.{Answers}
-use Rattle.guard.specs.Table.{guardTableOf}
-use Rattle.guard.specs.Promises.{Work, guardStates, MakesGuard}
-use Rattle.guard.specs.Lent.{lent, work-room}
-use Rattle.guard.specs.Written.{guard-promise}
+use Rattle.records.specs.Meaning.Numbers.{zeros}
+use Rattle.supervisor.specs.Model.Making.{Answers}
+use Rattle.guard.specs.Model.Table.{guardTableOf}
+use Rattle.guard.specs.Promises.Guard.{Work, guardStates, MakesGuard}
+use Rattle.guard.specs.Model.Lent.{lent}
+use Rattle.guard.specs.Laws.Lent.{work-room}
+use Rattle.guard.specs.Laws.Written.{guard-promise}
 use Rattle.guard.proofs.make.Guard.make.Statement.{statement}
 use Rattle.guard.proofs.make.Guard.make.Tie as tie
 

@@ -1,6 +1,7 @@
 -- `records::cursor::Cursor::read`: the tests in the definition's order. Assumes nothing.
-use Rattle.records.specs.Tests.{cases}
-use Rattle.records.specs.Cursor.{readAt, finds}
+use Rattle.records.specs.Laws.Tests.{cases}
+use Rattle.records.specs.Meaning.Records.{readAt}
+use Rattle.records.specs.Laws.Cursor.{finds}
 use borrow.Author.Needs.{needs}
 use Rattle.records.proofs.cursor.Cursor.read.Statement.{statement}
 use Rattle.records.proofs.cursor.Cursor.read.Tie as tie

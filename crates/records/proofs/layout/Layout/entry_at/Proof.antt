@@ -2,8 +2,8 @@
 use native.Mathlib.Omega.{arith}
 use native.Mathlib.Nat.{mul-le-mul}
 use Prim.Native.Nat.{_*_, _≤_}
-use Rattle.records.specs.Limits.{maxStates}
-use Rattle.records.specs.Layout.{entryAt}
+use Rattle.records.specs.Meaning.Limits.{maxStates}
+use Rattle.records.specs.Meaning.GuardTable.{entryAt}
 use borrow.Author.Needs.{needs}
 use Rattle.records.proofs.layout.Layout.entry_at.Statement.{statement}
 use Rattle.records.proofs.layout.Layout.entry_at.Tie as tie

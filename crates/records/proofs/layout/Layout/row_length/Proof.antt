@@ -2,8 +2,8 @@
 use native.Mathlib.Omega.{arith}
 use Prim.Native.Nat.{_^_, _≤_}
 use lib.Pow.{pow-mono}
-use Rattle.records.specs.Limits.{maxInputs}
-use Rattle.records.specs.Layout.{rowLength}
+use Rattle.records.specs.Meaning.Limits.{maxInputs}
+use Rattle.records.specs.Meaning.GuardTable.{rowLength}
 use borrow.Author.Needs.{needs}
 use Rattle.records.proofs.layout.Layout.row_length.Statement.{statement}
 use Rattle.records.proofs.layout.Layout.row_length.Tie as tie

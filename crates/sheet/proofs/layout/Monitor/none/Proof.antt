@@ -1,6 +1,6 @@
 -- `sheet::layout::Monitor::none`. Assumes nothing.
 use mathlib.Core.Path.{refl}
-use Rattle.sheet.specs.Layout.{noMonitor}
+use Rattle.sheet.specs.Model.Layout.{noMonitor}
 use Rattle.sheet.proofs.layout.Monitor.none.Statement.{statement}
 use Rattle.sheet.proofs.layout.Monitor.none.Tie as tie
 

@@ -1,6 +1,6 @@
 -- `sheet::layout::Sheet::blank`. Assumes nothing.
 use borrow.Author.Needs.{needs}
-use Rattle.sheet.specs.Layout.{blank, noMonitor}
+use Rattle.sheet.specs.Model.Layout.{blank, noMonitor}
 use Rattle.sheet.proofs.layout.Sheet.blank.Statement.{statement}
 use Rattle.sheet.proofs.layout.Sheet.blank.Tie as tie
 

@@ -1,7 +1,7 @@
 -- `sheet::layout::Sheet::with_monitor`: one place changed. Assumes nothing.
 use mathlib.Core.Path.{refl}
 use borrow.Author.Needs.{needs}
-use Rattle.sheet.specs.Layout.{withMonitor}
+use Rattle.sheet.specs.Model.Layout.{withMonitor}
 use Rattle.sheet.proofs.layout.Sheet.with_monitor.Statement.{statement}
 use Rattle.sheet.proofs.layout.Sheet.with_monitor.Tie as tie
 

@@ -1,8 +1,8 @@
 -- `supervisor::make::Supervisor::make`: the whole promise from the answer by the model, and each slice cleared. Assumes nothing.
 use mathlib.Core.Path.{ap, _∙_}
 use native.Mathlib.Omega.{arith}
-use Rattle.records.specs.Numbers.{zeros}
-use Rattle.supervisor.specs.Written.{supervisor-promise}
+use Rattle.records.specs.Meaning.Numbers.{zeros}
+use Rattle.supervisor.specs.Laws.Written.{supervisor-promise}
 use borrow.Author.Needs.{needs}
 use Rattle.supervisor.proofs.make.Supervisor.make.Statement.{statement}
 use Rattle.supervisor.proofs.make.Supervisor.make.Tie as tie

@@ -1,6 +1,6 @@
 -- `values::choice::Leader::against`: the leader stays unless there is none or the candidate goes before it. Assumes nothing.
-use Rattle.records.specs.Tests.{said-no, said-yes}
-use Rattle.values.specs.Leaders.{challenged}
+use Rattle.records.specs.Laws.Tests.{said-no, said-yes}
+use Rattle.values.specs.Model.Leaders.{challenged}
 use borrow.Author.Needs.{needs}
 use Rattle.values.proofs.choice.Leader.against.Statement.{statement}
 use Rattle.values.proofs.choice.Leader.against.Tie as tie

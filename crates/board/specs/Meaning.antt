@@ -1,0 +1,5 @@
+-- What a reader must believe.
+pub mod Board
+pub mod Load
+pub mod Step
+pub mod History

@@ -1,0 +1,33 @@
+-- Load (document 01, 'The board'): the board that a table gives, and what load hands back.
+-- Assumes nothing.
+use mathlib.Core.Bool.{true, cond}
+use mathlib.Core.List.{List}
+use Prim.Native.Nat.{ℕ}
+use lib.ListN.{getD}
+use Rattle.records.specs.Meaning.Numbers.{u16At}
+use Rattle.tables.specs.Meaning.Loadable.{loadable}
+use Rattle.board.specs.Meaning.Board.{live}
+use Rattle.board.specs.declared.Board.{Board}
+use Rattle.board.specs.declared.answers.Load.{Load}
+use Rattle.board.specs.declared.answers.Load.the-variants.{Loaded, Occupied, BadTable}
+use Rattle.board.specs.declared.answers.Loading.{Loading}
+
+-- the board that a table gives: its head's mode, lines and count, at the start of a run
+unfoldable pub boardOf : List ℕ → Board
+boardOf t =
+    record { loaded = true; mode = getD t 4 0; inputs = getD t 5 0; outputs = getD t 6 0; count = u16At t 8; place = 0; steps = 0; deviations = 0 }
+
+unfoldable pub loadOn : Board → List ℕ → Loading
+loadOn b t =
+    cond (live b) (record { board = b; answer = Occupied })
+    (cond (loadable t) (record { board = boardOf t; answer = Loaded }) (record { board = b; answer = BadTable }))
+
+-- document 01's number of an answer, 0 for no refusal; the answer has no other figure
+abbrev pub loadNumber : Load → ℕ
+loadNumber Loaded = 0
+loadNumber Occupied = 21
+loadNumber BadTable = 11
+
+-- the number that is due: 21, then 11
+unfoldable pub loadRefusal : Board → List ℕ → ℕ
+loadRefusal b t = cond (live b) 21 (cond (loadable t) 0 11)

@@ -1,0 +1,81 @@
+-- A step of the board (document 01, 'The board'): what it looks at, and what it hands back.
+-- Assumes nothing.
+use mathlib.Core.Bool.{Bool, cond, not, _&&_}
+use mathlib.Core.List.{List}
+use Prim.Native.Nat.{ℕ, _+_, _-_, _/_, _^_}
+use lib.Dec.{ltb, leb, eqb}
+use lib.ListN.{length, getD}
+use Rattle.records.specs.Meaning.Limits.{maxSteps}
+use Rattle.records.specs.Meaning.GuardTable.{tableLength, entryAt}
+use Rattle.board.specs.Meaning.Board.{live, runAt}
+use Rattle.tables.specs.Meaning.Loadable.{entryOk}
+use Rattle.board.specs.declared.Board.{Board}
+use Rattle.board.specs.declared.answers.Step.{Step}
+use Rattle.board.specs.declared.answers.Step.the-variants.{Output, Empty, Spent, BadInput, BadTable}
+use Rattle.board.specs.declared.answers.Stepping.{Stepping}
+
+-- what a shield's input proposes: its lines above the site's
+unfoldable pub proposal : ℕ → ℕ → ℕ → ℕ
+proposal inputs outputs input = input / 2 ^ (inputs - outputs)
+
+-- in mode 1, the output is not the proposal
+unfoldable pub deviates : ℕ → ℕ → ℕ → ℕ → ℕ → Bool
+deviates mode inputs outputs input output = eqb mode 1 && not (eqb output (proposal inputs outputs input))
+
+-- the entry that a step reads: its output, and its next state
+unfoldable pub outputAt : Board → List ℕ → ℕ → ℕ
+outputAt b t input = getD t (entryAt (b .inputs) (b .place) input) 0
+
+unfoldable pub nextAt : Board → List ℕ → ℕ → ℕ
+nextAt b t input = getD t (entryAt (b .inputs) (b .place) input + 1) 0
+
+-- the slice is as long as the board's table, and the entry is in range
+unfoldable pub entryFits : Board → List ℕ → ℕ → Bool
+entryFits b t input =
+    eqb (length t) (tableLength (b .inputs) (b .count)) && entryOk t (entryAt (b .inputs) (b .place) input) (b .outputs) (b .count)
+
+-- a step with this output to this next state
+unfoldable pub moved : Board → ℕ → ℕ → ℕ → Stepping
+moved b input output next =
+    record {
+      board =
+          runAt b next (b .steps + 1) (b .deviations + cond (deviates (b .mode) (b .inputs) (b .outputs) input output) 1 0);
+      answer = Output output;
+    }
+
+-- a step of a live board that has steps left, at an input in range
+unfoldable pub lookedUp : Board → List ℕ → ℕ → Stepping
+lookedUp b t input =
+    cond (entryFits b t input) (moved b input (outputAt b t input) (nextAt b t input)) (record { board = b; answer = BadTable })
+
+unfoldable pub stepOn : Board → List ℕ → ℕ → Stepping
+stepOn b t input =
+    cond (live b)
+    (cond (leb maxSteps (b .steps)) (record { board = b; answer = Spent })
+    (cond (ltb input (2 ^ b .inputs)) (lookedUp b t input) (record { board = b; answer = BadInput })))
+    (record { board = b; answer = Empty })
+
+-- document 01's number of an answer, 0 for no refusal
+abbrev pub stepNumber : Step → ℕ
+stepNumber (Output o) = 0
+stepNumber Empty = 20
+stepNumber Spent = 22
+stepNumber BadInput = 12
+stepNumber BadTable = 11
+
+-- document 01's output of an answer, 0 on a refusal
+abbrev pub stepOutput : Step → ℕ
+stepOutput (Output o) = o
+stepOutput Empty = 0
+stepOutput Spent = 0
+stepOutput BadInput = 0
+stepOutput BadTable = 0
+
+-- the number that is due: 20, 22, 12, then 11
+unfoldable pub stepRefusal : Board → List ℕ → ℕ → ℕ
+stepRefusal b t input =
+    cond (live b) (cond (leb maxSteps (b .steps)) 22 (cond (ltb input (2 ^ b .inputs)) (cond (entryFits b t input) 0 11) 12)) 20
+
+-- the output that is due: the entry's, 0 on a refusal
+unfoldable pub stepGiven : Board → List ℕ → ℕ → ℕ
+stepGiven b t input = cond (eqb (stepRefusal b t input) 0) (outputAt b t input) 0

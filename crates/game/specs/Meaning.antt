@@ -1,0 +1,11 @@
+-- What a reader must believe.
+pub mod Words
+pub mod Strategy
+pub mod Survival
+pub mod History
+pub mod Supervisor
+pub mod Plans
+pub mod FirstMet
+pub mod Reachable
+pub mod Book
+pub mod Machine

@@ -1,0 +1,49 @@
+-- The maker's whole promise, from its answer by the model.
+-- Assumes nothing.
+use mathlib.Core.List.{List}
+use Prim.Native.Nat.{ℕ}
+use native.Mathlib.Omega.{arith}
+use Rattle.records.specs.Meaning.Numbers.{Bytes}
+use Rattle.sheet.specs.Meaning.Decoded.{Decoded}
+use Rattle.sheet.specs.Model.Reader.{reading}
+use Rattle.sheet.specs.Promises.Reader.{Reads}
+use Rattle.sheet.specs.Laws.Reading.{reads, only-sheet}
+use Rattle.supervisor.specs.Meaning.Allowed.Allowed.{Accepted}
+use Rattle.supervisor.specs.Model.Making.{Answers}
+use Rattle.supervisor.specs.Promises.Making.{Makes}
+use Rattle.supervisor.specs.Laws.Judging.{Only, makes, accepted-fits, written-front}
+use Rattle.supervisor.specs.declared.make.Made.{Made}
+use Rattle.plan.specs.Laws.Solved.{sheet-horizon}
+use Rattle.guard.specs.Model.Table.{guardTableOf}
+use Rattle.guard.specs.Promises.Guard.{Work, workOk, guardStates, Rows, MakesGuard}
+use Rattle.guard.specs.Laws.Demand.{faithful}
+use Rattle.guard.specs.Laws.Rows.{table-rows, only-rows}
+
+-- the whole promise, from the answer by the model
+pub guard-makes : {s before : List ℕ} {r : Made} {after : List ℕ} (w : Work)
+    → Answers guardTableOf guardStates (workOk w) s before r after
+    → Reads s (reading s) → Only s → MakesGuard s before w r after
+unfolding guardTableOf
+guard-makes {s} {before} {r} {after} w answers read only =
+    record {
+      makes = all;
+      rows = rows;
+      only = λ d a n table x.
+          only-rows d (a .sheet .in-bounds) (accepted-fits a) (a .realizable) (d .horizon) x (rows d a) .1;
+      written = λ e d a. let y = all .written e d (a .sheet) in rw (y .count, written-front y) (rows d a);
+      faithful = λ e d a.
+          rw (written-front (all .written e d (a .sheet)))
+          (faithful d (a .sheet .in-bounds) (accepted-fits a) (a .realizable) (d .horizon) (sheet-horizon d (a .sheet .in-bounds .horizon)));
+      work-bytes = omega arith;
+    }
+  where
+    all : Makes guardTableOf guardStates (workOk w) s before r after
+    all = makes guardTableOf guardStates answers read only
+
+    rows : (d : Decoded) → Accepted s d → Rows d (d .horizon) (guardStates d) (guardTableOf d)
+    rows d a = table-rows d (a .sheet .in-bounds) (accepted-fits a) (a .realizable) (d .horizon)
+
+-- the same of any bytes, by the laws of the reader
+pub guard-promise : {s before : List ℕ} {r : Made} {after : List ℕ} (w : Work) → Bytes s
+    → Answers guardTableOf guardStates (workOk w) s before r after → MakesGuard s before w r after
+guard-promise {s} w bytes answers = guard-makes w answers (reads s bytes) (only-sheet s)

@@ -1,0 +1,47 @@
+-- What is printed for a sheet (document 01, 'Notebook sheets').
+-- Assumes nothing.
+use mathlib.Core.Path.{_≡_}
+use mathlib.Core.Bool.{cond}
+use mathlib.Core.List.{List}
+use Prim.Native.Nat.{ℕ, _≤_}
+use lib.Dec.{ltb, leb, eqb}
+use lib.ListN.{length}
+use lib.Seq.{sets}
+use Rattle.records.specs.Meaning.Limits.{maxStates}
+use Rattle.sheet.specs.Meaning.Decoded.{Decoded}
+use Rattle.sheet.specs.Meaning.Refusals.{sheetNumber, firstNumber}
+use Rattle.product.specs.Model.Numbered.{stateCount}
+use Rattle.rounds.specs.Model.Rounds.{isIn}
+use Rattle.supervisor.specs.Model.Table.{droppedOf}
+use Rattle.supervisor.specs.Model.Making.{sheetOf}
+use Rattle.guard.specs.Model.Table.{guardTableOf}
+use Rattle.text.specs.Meaning.Listing.{listingOf, refusedText, tooLongText}
+
+-- the most bytes of a sheet
+abbrev pub sheetMost : ℕ
+sheetMost = 16_384
+
+-- no guard table is longer: 256 states with 16 inputs
+abbrev pub tableMost : ℕ
+tableMost = 9_226
+
+-- the ground for which a sheet is not accepted, 0 for none: 1 to 6, then 7, 8
+unfoldable pub solveNumber : Decoded → ℕ
+solveNumber d = cond (ltb maxStates (stateCount d)) 7 (cond (isIn (droppedOf d) 0) 0 8)
+
+unfoldable pub sheetGround : List ℕ → ℕ
+sheetGround s = firstNumber (sheetNumber s) (solveNumber (sheetOf s))
+
+-- the listing of its guard, or the line of its refusal
+unfoldable pub guardText : List ℕ → List ℕ
+guardText s = cond (eqb (sheetGround s) 0) (listingOf (guardTableOf (sheetOf s))) (refusedText (sheetGround s))
+
+unfoldable pub printed : List ℕ → List ℕ
+printed s = cond (leb (length s) sheetMost) (guardText s) tooLongText
+
+-- ---- what a writer of it leaves: the text at the start of the memory, and its length
+
+pub record Prints (words before : List ℕ) (r : ℕ) (after : List ℕ) : Type 0 where
+  pub size : r ≡ length words
+  pub bytes : after ≡ sets before 0 words
+  pub inside : r ≤ length after

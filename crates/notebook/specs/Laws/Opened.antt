@@ -1,0 +1,77 @@
+-- The definitions that the notebook's figures are computed by: a proof that unfolds one of these names unfolds all that it lists.
+-- Assumes nothing.
+use Rattle.records.specs.Meaning.Limits.{linesOk, horizonOk}
+use Rattle.records.specs.Meaning.Bounded.{all, any, sum, count}
+use Rattle.records.specs.Model.Bounded.{top}
+use Rattle.records.specs.Meaning.Lists.{tab, cat}
+use Rattle.records.specs.Model.Lists.{put}
+use Rattle.records.specs.Meaning.Numbers.{u16At}
+use Rattle.records.specs.Meaning.Records.{readAt}
+use Rattle.records.specs.Meaning.GuardTable.{rowLength, tableLength, entryAt, headerIs, guardRow, guardTable, rowAt}
+use Rattle.game.specs.Model.Numbering.{explore, visit, met, meet, add, find}
+use Rattle.game.specs.Model.Choice.{before, against, leader, choose}
+use Rattle.sheet.specs.Meaning.Decoded.{inputsOf, lettersOf, encode, encodeHead, encodeMonitor}
+use Rattle.sheet.specs.Model.Layout.{withMonitor}
+use Rattle.fields.specs.Meaning.Head.{siteOk, freshLine, literalOk, literalsOk, numbersOk, headOk}
+use Rattle.fields.specs.Model.Head.{literalAt}
+use Rattle.sheet.specs.Model.Head.{headSheet, readHead}
+use Rattle.fields.specs.Meaning.Monitor.{roleOk, statesOk, bytesMost, monitorOk}
+use Rattle.sheet.specs.Model.Monitor.{monitorAt, takeMonitor}
+use Rattle.sheet.specs.Model.Reader.{takeRecord, onFound, readRecords, firstFound, reading}
+use Rattle.sheet.specs.Meaning.Refusals.{headNumber, monitorNumber, recordsNumber, sheetNumber}
+use Rattle.sheet.specs.Model.Where.{automaton, decoded}
+use Rattle.product.specs.Meaning.Step.{proposal, differs, siteLetter, nextState, accepts, shadowed, shadowMoved, sound, limitLetter, letterOf, monitorMoved, moved, advance, broken, firstTuple, line, equalLines, softReward}
+use Rattle.product.specs.Model.States.{same}
+use Rattle.product.specs.Model.Numbered.{statesAfter, productStates, stateCount, stateOf, numberOf, cellOf}
+use Rattle.rounds.specs.Model.Rounds.{cellAt, isIn, leadsIn, answered, stays, entryAfter, round, rounds, settled, maskOf}
+use Rattle.supervisor.specs.Model.Table.{cellsOf, droppedOf, tableHead, tableOf, supervisorTable}
+use Rattle.masks.specs.Model.Rows.{keptFlag, tableRow}
+use Rattle.supervisor.specs.Model.Making.{sheetOf, tableNumber, makingNumber}
+use Rattle.values.specs.Meaning.Order.{holds}
+use Rattle.values.specs.Model.Rank.{rankBy, rank}
+use Rattle.values.specs.Model.Values as values
+use Rattle.values.specs.Model.Values.{mayGive, earns, scoreOf, worth, valueRow, choiceOf, choices}
+use Rattle.values.specs.Model.Guard.{chosen, follows, guardStates, guardNumber}
+use Rattle.guard.specs.Model.Table as guard
+use Rattle.guard.specs.Model.Table.{gainsOf, bonusOf, bonusesOf, gameOf, valuesOf, choicesOf, guardOf, guardCount, outputOf, guardOver, guardTableOf}
+use Rattle.board.specs.Meaning.Board.{countsOk, live, emptyBoard, runAt}
+use Rattle.tables.specs.Meaning.Loadable as table
+use Rattle.tables.specs.Meaning.Loadable.{sizeOk, fieldsOk, entryOk, entriesOk, rowOk, rowsOk, loadable}
+use Rattle.board.specs.Meaning.Load.{boardOf, loadOn}
+use Rattle.board.specs.Meaning.Step as board
+use Rattle.board.specs.Meaning.Step.{deviates, outputAt, nextAt, entryFits, lookedUp, stepOn}
+use Rattle.notebook.specs.Model.Row.{isAbove, isOrdered, test, tests}
+use Rattle.notebook.specs.Model.Figures.{scoresOf, outputsFrom, boardFrom, outputs, deviations}
+
+-- lists and numbers
+unfoldable pub lists : Unit {0}
+unfolding all any sum top count tab cat put u16At linesOk horizonOk same tests test isOrdered isAbove
+lists = tt
+
+-- a sheet's bytes, and how they are read
+unfoldable pub sheets : Unit {0}
+unfolding lists encode encodeHead encodeMonitor readAt inputsOf lettersOf siteOk freshLine literalOk literalsOk numbersOk headOk literalAt headSheet readHead
+    withMonitor roleOk statesOk bytesMost monitorOk monitorAt takeMonitor takeRecord onFound readRecords firstFound reading
+    headNumber monitorNumber recordsNumber sheetNumber automaton decoded sheetOf
+sheets = tt
+
+-- steps, product states, rounds and the supervisor table
+unfoldable pub supervisors : Unit {0}
+unfolding lists proposal differs siteLetter nextState accepts shadowed shadowMoved sound limitLetter letterOf monitorMoved moved advance broken firstTuple
+    explore visit met meet add find statesAfter productStates stateCount stateOf numberOf cellOf
+    cellAt isIn leadsIn answered stays entryAfter round rounds settled maskOf
+    cellsOf droppedOf keptFlag tableHead tableRow tableOf supervisorTable tableNumber makingNumber
+supervisors = tt
+
+-- rewards, values, choices and the guard table
+unfoldable pub guards : Unit {0}
+unfolding supervisors scoresOf line equalLines softReward gainsOf bonusOf bonusesOf gameOf before against leader choose holds rankBy rank
+    mayGive values.nextOf earns scoreOf worth valueRow valuesOf choiceOf choices choicesOf chosen follows guardStates guardNumber
+    guardOf guardCount outputOf guard.nextOf guardRow guardTable guardOver guardTableOf
+guards = tt
+
+-- load and step
+unfoldable pub boards : Unit {0}
+unfolding lists rowLength tableLength entryAt headerIs rowAt countsOk live emptyBoard runAt sizeOk fieldsOk table.headOk entryOk entriesOk rowOk rowsOk
+    loadable boardOf loadOn board.proposal deviates outputAt nextAt entryFits board.moved lookedUp stepOn outputsFrom boardFrom outputs deviations
+boards = tt

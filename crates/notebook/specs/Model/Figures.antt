@@ -1,0 +1,67 @@
+-- What the notebook's rows speak of: definitions that the makers' and the board's contracts cite, at a sheet's bytes.
+-- Assumes nothing.
+use mathlib.Core.Bool.{true}
+use mathlib.Core.List.{List, [], _∷_}
+use Prim.Native.Nat.{ℕ, _^_}
+use Rattle.records.specs.Meaning.Lists.{tab}
+use Rattle.sheet.specs.Meaning.Decoded.{Decoded}
+use Rattle.product.specs.Meaning.Step.{inputsOf, outputsOf}
+use Rattle.product.specs.Model.Numbered.{stateCount}
+use Rattle.values.specs.Model.Values.{scoreOf}
+use Rattle.board.specs.Meaning.Board.{emptyBoard}
+use Rattle.board.specs.Meaning.Load.{loadOn}
+use Rattle.board.specs.Meaning.Step.{stepOn, stepOutput}
+use Rattle.board.specs.declared.Board.{Board}
+use Rattle.supervisor.specs.Model.Table.{supervisorTable}
+use Rattle.supervisor.specs.Model.Making.{sheetOf, makingNumber}
+use Rattle.guard.specs.Model.Table.{gameOf, valuesOf, guardTableOf}
+
+-- ---- the makers
+
+-- result memory for the longest guard table; no supervisor table is longer
+abbrev pub room : ℕ
+room = 9226
+
+-- their numbers, with enough work memory
+abbrev pub supervisorNumber : List ℕ → ℕ
+supervisorNumber sheet = makingNumber supervisorTable true sheet room
+
+abbrev pub guardNumber : List ℕ → ℕ
+guardNumber sheet = makingNumber guardTableOf true sheet room
+
+-- their tables
+abbrev pub supervisor : List ℕ → List ℕ
+supervisor sheet = supervisorTable (sheetOf sheet)
+
+abbrev pub guard : List ℕ → List ℕ
+guard sheet = guardTableOf (sheetOf sheet)
+
+-- ---- what the tables are made from
+
+abbrev pub states : List ℕ → ℕ
+states sheet = stateCount (sheetOf sheet)
+
+-- the scores of the outputs at product state k and input i, over the sheet's horizon
+unfoldable pub scoresOf : Decoded → ℕ → ℕ → List ℕ
+scoresOf d k i = tab (outputsOf d) (scoreOf (gameOf d) (valuesOf d (d .horizon)) (inputsOf d ^ d .horizon) k i)
+
+abbrev pub scores : List ℕ → ℕ → ℕ → List ℕ
+scores sheet k i = scoresOf (sheetOf sheet) k i
+
+-- ---- a run of the board
+
+-- a step for each of these inputs: the outputs, and the board at last
+unfoldable pub outputsFrom : Board → List ℕ → List ℕ → List ℕ
+outputsFrom b table [] = []
+outputsFrom b table (i ∷ inputs) = stepOutput (stepOn b table i .answer) ∷ outputsFrom (stepOn b table i .board) table inputs
+
+unfoldable pub boardFrom : Board → List ℕ → List ℕ → Board
+boardFrom b table [] = b
+boardFrom b table (i ∷ inputs) = boardFrom (stepOn b table i .board) table inputs
+
+-- the same once the empty board has loaded the table
+unfoldable pub outputs : List ℕ → List ℕ → List ℕ
+outputs table inputs = outputsFrom (loadOn emptyBoard table .board) table inputs
+
+unfoldable pub deviations : List ℕ → List ℕ → ℕ
+deviations table inputs = boardFrom (loadOn emptyBoard table .board) table inputs .deviations

@@ -1,0 +1,7 @@
+-- Theorems that other crates and the sources cite.
+pub mod Playing
+pub mod Planned
+pub mod Agree
+pub mod Best
+pub mod Reaching
+pub mod Solved

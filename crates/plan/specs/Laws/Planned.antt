@@ -1,0 +1,213 @@
+-- How the code comes by what planning leaves.
+-- Assumes nothing.
+use mathlib.Core.Path.{_≡_, refl, sym, ap, _∙_, subst}
+use mathlib.Core.Bool.{true}
+use mathlib.Core.List.{List}
+use Prim.Native.Nat.{ℕ, _*_, _/_, _%_, _^_, _≤_, _<_}
+use native.Mathlib.Nat.{mul-le-mul}
+use native.Mathlib.Omega.{arith}
+use lib.ListN.{length, getD}
+use Rattle.records.specs.Meaning.Limits.{horizonOk}
+use Rattle.records.specs.Laws.Limits.{horizon-facts}
+use Rattle.records.specs.Model.Lists.{put}
+use Rattle.records.specs.Laws.Lists.{getD-put-front, length-put}
+use Rattle.sheet.specs.Meaning.Decoded.{Decoded, SheetOk, inputLines}
+use Rattle.sheet.specs.Model.Where.{Fits, decoded}
+use Rattle.sheet.specs.declared.layout.Sheet.{Sheet}
+use Rattle.product.specs.Model.Range.{InRange}
+use Rattle.product.specs.Meaning.Step.{softReward, weightOf}
+use Rattle.product.specs.Meaning.States.{Reached}
+use Rattle.product.specs.Model.States.{tupleAt}
+use Rattle.product.specs.Laws.Range.{first-in-range, advance-in-range}
+use Rattle.product.specs.Model.Numbered.{stateOf}
+use Rattle.product.specs.Laws.Numbered.{some-state, state-reached}
+use Rattle.game.specs.Meaning.Reachable.{begin, onward}
+use Rattle.rounds.specs.Model.Rounds.{isIn}
+use Rattle.rounds.specs.Laws.Agree.{in-agree}
+use Rattle.supervisor.specs.Model.Table.{droppedOf}
+use Rattle.supervisor.specs.Laws.Solving.{inputs-most, outputs-most, letters-most, layout-inputs, layout-outputs}
+use Rattle.values.specs.Model.Values.{Game, Sized, valueRow}
+use Rattle.values.specs.Model.Sizes.{Valued}
+use Rattle.values.specs.Model.Sizes as sizes
+use Rattle.values.specs.Laws.Growth.{row-valued}
+use Rattle.values.specs.Model.Leaders.{literalsOf}
+use Rattle.values.specs.Model.Guard.{chosen, follows, guardStates}
+use Rattle.values.specs.Model.Values as vals
+use Rattle.values.specs.Model.Numbered.{stepsOf, Following, Numbered}
+use Rattle.values.specs.Laws.Numbered.{entry-met, steps-only}
+use Rattle.values.specs.Laws.Choices.{choices-following}
+use Rattle.plan.specs.Model.Table.{bonusOf, guardOf, guardCount}
+use Rattle.plan.specs.Laws.Agree.{SameGuard, choicesBy, stored-guard}
+use Rattle.plan.specs.Laws.Solved.{sheet-horizon, few, words-most, layout-literals, stored, sized, code-table}
+use Rattle.rows.specs.Model.Entered.{numbered, tableBy}
+use Rattle.plan.specs.Model.Planned.{Playable, Planned}
+
+-- ---- a layout's numbers
+
+module _ {s : List ℕ} {h : Sheet} (fits : Fits s h) where
+  pub inputs-low : h .inputs ≤ 4
+  unfolding decoded
+  inputs-low = omega (arith, fits .inputs, fits .ok .head .inputs)
+
+  pub outputs-low : h .outputs ≤ 3
+  unfolding decoded
+  outputs-low = fits .ok .head .outputs-most
+
+  pub lines-are : h .inputs ≡ inputLines (decoded s h)
+  unfolding decoded
+  lines-are = fits .inputs
+
+  pub horizon-in-bounds : horizonOk (inputLines (decoded s h)) (h .horizon) ≡ true
+  unfolding decoded
+  horizon-in-bounds = sheet-horizon (decoded s h) (fits .ok .horizon)
+
+-- ---- the tuples of product states are in range
+
+reached-in-range : (d : Decoded) → SheetOk d → (t : List ℕ) → Reached d t → InRange d t
+reached-in-range d ok t begin = first-in-range d ok
+reached-in-range d ok t (onward {s = u} i o r hi ho e) = advance-in-range d ok u i o (reached-in-range d ok u r) hi ho
+
+pub tuples-in-range : {d : Decoded} → SheetOk d → {n : ℕ} {tuples cells dropped : List ℕ} → Playable d n tuples cells dropped
+    → (k : ℕ) → k < n → InRange d (tupleAt tuples k)
+tuples-in-range {d} ok p k h =
+    rw (p .solution .numbering .tuple k h)
+    (reached-in-range d ok (stateOf d k) (state-reached d k (omega (arith, p .solution .numbering .counted))))
+
+-- only steps and choices count where chosen outputs lead
+following-steps : (g : Game) (choices : List ℕ) (n : ℕ) → Following g choices n
+    → Following (stepsOf (g .cells) (g .inputs) (g .outputs)) choices n
+unfolding follows chosen vals.nextOf
+following-steps g choices n f =
+    record { states = f .states; steps = f .steps; chosen-room = f .chosen-room; output = f .output; closed = f .closed }
+
+-- ---- planning
+
+module _ {s : List ℕ} {sheet : Sheet} (fits : Fits s sheet) {n : ℕ} {tuples cells dropped : List ℕ}
+    (p : Playable (decoded s sheet) n tuples cells dropped)
+    (inputs outputs : ℕ) (is-inputs : inputs ≡ 2 ^ sheet .inputs) (is-outputs : outputs ≡ 2 ^ sheet .outputs)
+  where
+    ins : inputs ≡ Rattle.product.specs.Meaning.Step.inputsOf (decoded s sheet)
+    ins = is-inputs ∙ layout-inputs fits
+
+    outs : outputs ≡ Rattle.product.specs.Meaning.Step.outputsOf (decoded s sheet)
+    outs = is-outputs ∙ layout-outputs s sheet
+
+    -- how many there are
+    pub counts-low : (1 ≤ inputs) × (inputs ≤ 16) × (1 ≤ outputs) × (outputs ≤ 8) × (inputs * outputs ≤ 64)
+    counts-low = (
+      omega (arith, lib.Pow.pow-pos (sheet .inputs)),
+      omega (arith, ins, inputs-most (decoded s sheet) (fits .ok .head)),
+      omega (arith, lib.Pow.pow-pos (sheet .outputs)),
+      omega (arith, outs, outputs-most (decoded s sheet) (fits .ok .head)),
+      rw (ins, outs) (letters-most (decoded s sheet) (fits .ok .head)),
+    )
+
+    -- the choices have room
+    pub choices-room : n * inputs ≤ 4096
+    choices-room = omega (arith, mul-le-mul (p .solution .numbering .most) (counts-low .1))
+
+    -- the words of a horizon in bounds
+    pub plan-words : (h : ℕ) → horizonOk (inputLines (decoded s sheet)) h ≡ true → (h ≤ 24) × (inputs ^ h ≤ 2 ^ 24)
+    plan-words h far = (horizon-facts _ h far .most, rw ins (words-most (decoded s sheet) h far))
+
+    module _
+        (gains₀ bonuses₀ : List ℕ) {gains bonuses : List ℕ}
+        (earned : gains ≡ put gains₀ n (λ k. softReward (weightOf (decoded s sheet)) (decoded s sheet) (tupleAt tuples k)))
+        (matched : bonuses ≡ put bonuses₀ (inputs * outputs) (λ l. bonusOf (decoded s sheet) (l % inputs) (l / inputs)))
+        (gains-room : 256 ≤ length gains₀) (bonuses-room : 64 ≤ length bonuses₀)
+      where
+        most : n ≤ 256
+        most = p .solution .numbering .most
+
+        earned-at : (k : ℕ) → k < n
+            → getD gains k 0 ≡ softReward (weightOf (decoded s sheet)) (decoded s sheet) (stateOf (decoded s sheet) k)
+        earned-at k h =
+            let low : k < length gains₀ = omega (arith, most) in
+            ap (λ (l : List ℕ). getD l k 0) earned
+            ∙ getD-put-front gains₀ n (λ q. softReward (weightOf (decoded s sheet)) (decoded s sheet) (tupleAt tuples q)) k 0 h low
+            ∙ ap (λ (t : List ℕ). softReward (weightOf (decoded s sheet)) (decoded s sheet) t) (p .solution .numbering .tuple k h)
+
+        matched-at : (l : ℕ) → l < inputs * outputs → getD bonuses l 0 ≡ bonusOf (decoded s sheet) (l % inputs) (l / inputs)
+        matched-at l h =
+            let low : l < length bonuses₀ = omega (arith, counts-low .4) in
+            ap (λ (x : List ℕ). getD x l 0) matched
+            ∙ getD-put-front bonuses₀ (inputs * outputs) (λ q. bonusOf (decoded s sheet) (q % inputs) (q / inputs)) l 0 h low
+
+        abbrev game : Game
+        game = sizes.gameOf cells dropped gains bonuses inputs outputs
+
+        -- the table has the sizes that working out values relies on
+        pub plan-sized : 16384 ≤ length cells → 256 ≤ length dropped → Sized game n
+        plan-sized wide-cells wide-dropped =
+            sized (p .solution) gains bonuses inputs outputs ins outs earned-at matched-at (fits .ok) wide-cells wide-dropped
+            (rw (earned, length-put) gains-room) (rw (matched, length-put) bonuses-room)
+
+        module _ (wide-cells : 16384 ≤ length cells) (wide-dropped : 256 ≤ length dropped)
+            (h : ℕ) (far : horizonOk (inputLines (decoded s sheet)) h ≡ true)
+            (values₀ choices₀ : List ℕ) {values : List ℕ} {words : ℕ}
+            (valued : values ≡ valueRow game n values₀ h) (counted : words ≡ inputs ^ h)
+            (values-room : 256 ≤ length values₀) (chosen-room : 4096 ≤ length choices₀)
+          where
+            -- values fit
+            pub plan-valued : Valued n values words
+            plan-valued =
+                rw (valued, counted)
+                (row-valued game n values₀ (omega (arith, most)) (plan-sized wide-cells wide-dropped) h (plan-words h far .0)
+                (plan-words h far .1))
+
+            module _ {choices : List ℕ} (chose : choices ≡ vals.choices game n (literalsOf (sheet .literals) (sheet .outputs)) values words choices₀) where
+              -- the choices are those over the horizon
+              by-horizon : choices ≡ choicesBy game n (decoded s sheet .literals) h values₀ choices₀
+              unfolding literalsOf
+              by-horizon =
+                  chose ∙ rw (valued, counted, layout-literals s sheet)
+
+              same : SameGuard (decoded s sheet) h n game values₀ choices₀
+              same =
+                  stored-guard (decoded s sheet) (few (p .solution)) (sym (p .solution .start-kept)) h n game
+                  (stored (p .solution) gains bonuses inputs outputs ins outs earned-at matched-at)
+                  values₀ choices₀ (omega (arith, most)) (omega (arith, choices-room))
+
+              -- chosen outputs reach none but the n states
+              pub plan-following : Following (stepsOf cells inputs outputs) choices n
+              plan-following =
+                  following-steps game choices n
+                  (subst (λ (c : List ℕ). Following game c n) (sym by-horizon)
+                  (choices-following game (decoded s sheet .literals) (valueRow game n values₀ h) (inputs ^ h) n choices₀
+                  (omega (arith, choices-room)) (plan-sized wide-cells wide-dropped) (same .live)
+                  (omega (arith, some-state (decoded s sheet), p .solution .numbering .counted))
+                  (kept-start)))
+                where
+                  kept-start : isIn dropped 0 ≡ true
+                  kept-start =
+                      in-agree n dropped (droppedOf (decoded s sheet)) (p .solution .rounds) 0
+                      (omega (arith, some-state (decoded s sheet), p .solution .numbering .counted))
+                      ∙ sym (p .solution .start-kept)
+
+              -- and the states numbered, the table is the sheet's
+              pub plan-made : {order numbers : List ℕ} {count : ℕ} → n ≤ length order → n ≤ length numbers
+                  → Numbered n (guardStates (stepsOf cells inputs outputs) choices n) order numbers count
+                  → Planned (decoded s sheet) h (stepsOf cells inputs outputs) choices order numbers n count
+              unfolding guardCount numbered follows chosen vals.nextOf
+              plan-made {order} {numbers} {count} order-room numbers-room done =
+                  let states : guardStates (stepsOf cells inputs outputs) choices n ≡ guardOf (decoded s sheet) h =
+                  steps-only game choices n
+                  ∙ ap (λ (c : List ℕ). guardStates game c n) by-horizon ∙ same .states in
+                  let done′ : Numbered n (guardOf (decoded s sheet) h) order numbers count =
+                  subst (λ (L : List ℕ). Numbered n L order numbers count) states done in
+                  record {
+                    tabled = record {
+                      following = plan-following;
+                      order-room = order-room;
+                      numbers-room = numbers-room;
+                      numbered = done;
+                    };
+                    counted = done′ .counted;
+                    table =
+                        ap (λ (m : ℕ). tableBy (decoded s sheet .mode) (inputLines (decoded s sheet)) (decoded s sheet .outputs) h m
+                        (stepsOf cells inputs outputs) choices order numbers) (done′ .counted)
+                        ∙ code-table (decoded s sheet) (few (p .solution)) (sym (p .solution .start-kept)) h n game values₀ choices₀ same ins
+                        choices by-horizon order numbers (done′ .states)
+                        (λ k l has. done′ .entries k l ∙ entry-met (guardOf (decoded s sheet) h) k has)
+                        _ _ (λ j i hj hi. refl) (λ j i hj hi. refl);
+                  }

@@ -1,0 +1,10 @@
+-- Theorems that other crates and the sources cite.
+pub mod Bits
+pub mod Bounded
+pub mod Cursor
+pub mod GuardTable
+pub mod Limits
+pub mod Lists
+pub mod Numbers
+pub mod Stores
+pub mod Tests

@@ -1,0 +1,8 @@
+-- What a reader must believe.
+pub mod Bits
+pub mod Bounded
+pub mod Records
+pub mod GuardTable
+pub mod Limits
+pub mod Lists
+pub mod Numbers

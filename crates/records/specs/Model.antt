@@ -1,0 +1,4 @@
+-- Definitions that go the way the code goes.
+pub mod Bounded
+pub mod Cells
+pub mod Lists

@@ -1,0 +1,18 @@
+-- The first number below a bound that passes a test, and the largest score of those that pass.
+-- Assumes nothing.
+use mathlib.Core.Bool.{Bool, cond}
+use Prim.Native.Nat.{ℕ, zero, suc, max}
+
+-- ---- the first
+
+-- the least number below n that passes the test, or n
+unfoldable pub first : ℕ → (ℕ → Bool) → ℕ
+first zero p = 0
+first (suc n) p = cond (p 0) 0 (suc (first n (λ k. p (suc k))))
+
+-- ---- the largest
+
+-- the largest f over the numbers below n that pass the test; 0 if none does
+unfoldable pub top : ℕ → (ℕ → Bool) → (ℕ → ℕ) → ℕ
+top zero p f = 0
+top (suc n) p f = cond (p n) (max (top n p f) (f n)) (top n p f)

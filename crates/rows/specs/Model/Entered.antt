@@ -1,0 +1,46 @@
+-- The entries that the code writes, read from work memory, and why each of them can be read.
+-- Assumes nothing.
+use mathlib.Core.List.{List, [], _∷_}
+use Prim.Native.Nat.{ℕ, _-_, _≤_, _<_}
+use lib.ListN.{length, getD}
+use Rattle.records.specs.Meaning.GuardTable.{guardRow, guardTable}
+use Rattle.values.specs.Model.Values.{Game}
+use Rattle.values.specs.Model.Guard.{chosen, follows, guardStates}
+use Rattle.values.specs.Model.Numbered.{Following, Numbered}
+
+-- ---- an entry
+
+-- the guard state after the chosen output, where `numbers` has for each product state its number and 1 more
+unfoldable pub numbered : Game → List ℕ → List ℕ → ℕ → ℕ → ℕ
+numbered g choices numbers k i = getD numbers (follows g choices k i) 0 - 1
+
+-- the entry of product state k at input i
+abbrev pub entryBy : Game → List ℕ → List ℕ → ℕ → ℕ → List ℕ
+entryBy g choices numbers k i = chosen g choices k i ∷ numbered g choices numbers k i ∷ []
+
+-- its row
+abbrev pub rowBy : ℕ → Game → List ℕ → List ℕ → ℕ → List ℕ
+rowBy lines g choices numbers k = guardRow lines (chosen g choices k) (numbered g choices numbers k)
+
+-- a table of the entries of the product states in `order`
+abbrev pub tableBy : ℕ → ℕ → ℕ → ℕ → ℕ → Game → List ℕ → List ℕ → List ℕ → List ℕ
+tableBy mode lines outputs horizon count g choices order numbers =
+    guardTable mode lines outputs horizon count (λ j. chosen g choices (getD order j 0)) (λ j. numbered g choices numbers (getD order j 0))
+
+-- ---- what the code relies on
+
+-- product state k is one of n, and every state that it leads to has a number
+pub record Entered (g : Game) (choices numbers : List ℕ) (n k : ℕ) : Type 0 where
+  pub following : Following g choices n
+  pub room : n ≤ length numbers
+  pub state : k < n
+  pub low : (i : ℕ) → i < g .inputs → follows g choices k i < n
+  pub least : (i : ℕ) → i < g .inputs → 1 ≤ getD numbers (follows g choices k i) 0
+  pub most : (i : ℕ) → i < g .inputs → getD numbers (follows g choices k i) 0 ≤ 256
+
+-- the guard's states, numbered
+pub record Tabled (g : Game) (choices order numbers : List ℕ) (n count : ℕ) : Type 0 where
+  pub following : Following g choices n
+  pub order-room : n ≤ length order
+  pub numbers-room : n ≤ length numbers
+  pub numbered : Numbered n (guardStates g choices n) order numbers count

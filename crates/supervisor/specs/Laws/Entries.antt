@@ -1,0 +1,194 @@
+-- The table of steps of a sheet, and what its entries mean: kept, lost and allowed.
+-- Assumes nothing.
+use mathlib.Core.Path.{_≡_, refl, sym, ap, _∙_, subst}
+use mathlib.Core.Logic.{_↔_}
+use mathlib.Core.Bool.{Bool, true, false, cond, not}
+use mathlib.Core.List.{List}
+use Prim.Native.Nat.{ℕ, zero, suc, _+_, _-_, _*_, _/_, _%_, _≤_, _<_}
+use native.Mathlib.Nat.{mod-lt, div-lt-iff-lt-mul}
+use native.Mathlib.Omega.{arith}
+use lib.Arith.{digits-lt, digits-div, digits-mod}
+use lib.Dec.{eqb}
+use lib.ListN.{length, getD, length-replicate}
+use borrow.Author.Tests.{ne-eqb}
+use Rattle.records.specs.Laws.Tests.{by-test}
+use Rattle.records.specs.Meaning.Limits.{maxStates}
+use Rattle.records.specs.Laws.Lists.{getD-tab, length-tab}
+use Rattle.records.specs.Meaning.Numbers.{zeros}
+use Rattle.sheet.specs.Meaning.Decoded.{Decoded}
+use Rattle.product.specs.Meaning.Step.{inputsOf, outputsOf, advance, unbroken, firstTuple}
+use Rattle.product.specs.Model.States.{lettersOf}
+use Rattle.product.specs.Meaning.States.{Reached}
+use Rattle.product.specs.Model.Numbered.{stateCount, stateOf, numberOf, cellOf}
+use Rattle.product.specs.Laws.Numbered.{reached-number, number-state, step-number, quiet-round}
+use Rattle.game.specs.Model.Rounds.{keptAfter, droppedBy, may, Quiet}
+use Rattle.game.specs.Laws.Rounds.{quiet-on, kept-dropped, kept-iff, lost-iff, allowed-iff}
+use Rattle.game.specs.Laws.Naming.{Names, dropped-named}
+use Rattle.game.specs.Laws.Reachable.{letter-low, letter-input, letter-output, input-low, output-low, reachable-closed}
+use Rattle.records.specs.Model.Cells.{brokenCell}
+use Rattle.rounds.specs.Model.Rounds.{Steps, cellAt, isIn, leadsIn, rounds, settled}
+use Rattle.supervisor.specs.Meaning.Allowed.Allowed.{Kept, Lost, Allowed}
+use Rattle.supervisor.specs.Model.Table.{cellsOf, droppedOf}
+use Rattle.supervisor.specs.Laws.Numbered.{goes, passes, leads-game, rounds-game}
+
+-- a table with a place in it has rows that are not empty
+pub some-letter : (n L at : ℕ) → at < n * L → 0 < L
+some-letter n zero at h = absurd (omega arith)
+some-letter n (suc L) at h = omega arith
+
+module _ (d : Decoded) where
+  -- ---- the cells
+
+  -- the cell of a state, an input and an output
+  pub cell-is : (k i o : ℕ) → k < stateCount d → i < inputsOf d → o < outputsOf d
+      → getD (cellsOf d) (cellAt (inputsOf d) (outputsOf d) k i o) 0 ≡ cellOf d k i o
+  unfolding cellsOf cellAt
+  cell-is k i o hk hi ho =
+      let low : i + inputsOf d * o < lettersOf d = letter-low (inputsOf d) (outputsOf d) i o hi ho in
+      getD-tab (stateCount d * lettersOf d) _ (k * lettersOf d + (i + inputsOf d * o)) 0 (digits-lt hk low)
+      ∙ rw (digits-div k low, digits-mod k low, letter-input (inputsOf d) i o hi, letter-output (inputsOf d) i o hi)
+
+  module _ (fits : stateCount d ≤ maxStates) where
+    -- a cell that is not broken holds a state's number
+    cell-in-range : (k i o : ℕ) → k < stateCount d → i < inputsOf d → o < outputsOf d
+        → (cellOf d k i o ≡ brokenCell → ⊥) → cellOf d k i o < stateCount d
+    unfolding cellOf
+    cell-in-range k i o hk hi ho = go (unbroken d (stateOf d k) i o) (λ e. step-number d fits k i o hk hi ho e .0)
+      where
+        go : (b : Bool) → (b ≡ true → numberOf d (advance d (stateOf d k) i o) < stateCount d)
+            → (cond b (numberOf d (advance d (stateOf d k) i o)) brokenCell ≡ brokenCell → ⊥)
+            → cond b (numberOf d (advance d (stateOf d k) i o)) brokenCell < stateCount d
+        go true f z = f refl
+        go false f z = absurd (z refl)
+
+    -- the cells are a table of steps
+    pub sheet-steps : Steps (cellsOf d) (stateCount d) (inputsOf d) (outputsOf d)
+    unfolding cellsOf
+    sheet-steps =
+        record {
+          rows = rw length-tab (omega arith);
+          inside = λ at h.
+              let some : 0 < lettersOf d = some-letter (stateCount d) (lettersOf d) at h in
+              let low : at % lettersOf d < lettersOf d = mod-lt at some in
+              rw getD-tab
+              (cell-in-range (at / lettersOf d) (at % lettersOf d % inputsOf d) (at % lettersOf d / inputsOf d)
+              (div-lt-iff-lt-mul some .1 h) (input-low (inputsOf d) (outputsOf d) _ low) (output-low (inputsOf d) (outputsOf d) _ low));
+        }
+
+    -- a step of the table is unbroken when the tuples' is
+    pass-is : (k i o : ℕ) → k < stateCount d → i < inputsOf d → o < outputsOf d
+        → passes (cellsOf d) (inputsOf d) (outputsOf d) k i o ≡ unbroken d (stateOf d k) i o
+    unfolding passes goes cellOf
+    pass-is k i o hk hi ho =
+        rw (cell-is k i o hk hi ho)
+        (go (unbroken d (stateOf d k) i o) (λ e. step-number d fits k i o hk hi ho e .0))
+      where
+        go : (b : Bool) → (b ≡ true → numberOf d (advance d (stateOf d k) i o) < stateCount d)
+            → not (eqb (cond b (numberOf d (advance d (stateOf d k) i o)) brokenCell) brokenCell) ≡ b
+        go true f = rw (ne-eqb (numberOf d (advance d (stateOf d k) i o)) brokenCell (λ z. omega (arith, f refl)))
+        go false f = refl
+
+    -- and leads to the number of the next tuple
+    goes-is : (k i o : ℕ) → k < stateCount d → i < inputsOf d → o < outputsOf d
+        → passes (cellsOf d) (inputsOf d) (outputsOf d) k i o ≡ true
+        → goes (cellsOf d) (inputsOf d) (outputsOf d) k i o ≡ numberOf d (advance d (stateOf d k) i o)
+    unfolding goes cellOf
+    goes-is k i o hk hi ho e = rw (cell-is k i o hk hi ho, sym (pass-is k i o hk hi ho) ∙ e)
+
+    -- the numbers are names of the tuples
+    pub numbers-name : Names ℕ (List ℕ) (inputsOf d) (outputsOf d)
+        (goes (cellsOf d) (inputsOf d) (outputsOf d)) (advance d)
+        (passes (cellsOf d) (inputsOf d) (outputsOf d)) (unbroken d)
+        (λ k. k < stateCount d) (stateOf d)
+    numbers-name =
+        record {
+          tests = pass-is;
+          inside = λ k i o hk hi ho e.
+              rw (goes-is k i o hk hi ho e) (step-number d fits k i o hk hi ho (sym (pass-is k i o hk hi ho) ∙ e) .0);
+          lands = λ k i o hk hi ho e.
+              rw (goes-is k i o hk hi ho e) (step-number d fits k i o hk hi ho (sym (pass-is k i o hk hi ho) ∙ e) .1);
+        }
+
+    -- ---- the rounds
+
+    -- an entry after r rounds is the round that dropped the tuple
+    pub entry-dropped : (memory : List ℕ) → stateCount d ≤ length memory → (r k : ℕ) → k < stateCount d
+        → getD (rounds (cellsOf d) (stateCount d) (inputsOf d) (outputsOf d) memory r) k 0
+        ≡ droppedBy (List ℕ) (inputsOf d) (outputsOf d) (advance d) (unbroken d) r (stateOf d k)
+    entry-dropped memory room r k h =
+        rounds-game sheet-steps memory room r k h
+        ∙ dropped-named ℕ (List ℕ) (inputsOf d) (outputsOf d) (goes (cellsOf d) (inputsOf d) (outputsOf d)) (advance d)
+        (passes (cellsOf d) (inputsOf d) (outputsOf d)) (unbroken d) (λ q. q < stateCount d) (stateOf d) numbers-name r k h
+
+    -- so the entries of the table are
+    pub dropped-is : (k : ℕ) → k < stateCount d
+        → getD (droppedOf d) k 0
+        ≡ droppedBy (List ℕ) (inputsOf d) (outputsOf d) (advance d) (unbroken d) (stateCount d) (stateOf d k)
+    unfolding droppedOf settled
+    dropped-is = entry-dropped (zeros (stateCount d)) (omega (arith, length-replicate {A = ℕ} (stateCount d) 0)) (stateCount d)
+
+    -- a state is in when its tuple is kept after as many rounds as there are states
+    pub in-kept : (k : ℕ) → k < stateCount d
+        → isIn (droppedOf d) k ≡ keptAfter (List ℕ) (inputsOf d) (outputsOf d) (advance d) (unbroken d) (stateCount d) (stateOf d k)
+    unfolding isIn
+    in-kept k h =
+        ap (λ (x : ℕ). eqb x 0) (dropped-is k h)
+        ∙ sym (kept-dropped (List ℕ) (inputsOf d) (outputsOf d) (advance d) (unbroken d) (stateCount d) (stateOf d k))
+
+    -- and no later round drops a tuple
+    pub settled-quiet : Quiet (List ℕ) (inputsOf d) (outputsOf d) (advance d) (unbroken d) (Reached d) (stateCount d)
+    settled-quiet =
+        let q = quiet-round d fits in
+        let h : q .0 ≤ stateCount d = q .1 in
+        let whole : q .0 + (stateCount d - q .0) ≡ stateCount d = omega arith in
+        subst (Quiet (List ℕ) (inputsOf d) (outputsOf d) (advance d) (unbroken d) (Reached d)) whole
+        (quiet-on (List ℕ) (inputsOf d) (outputsOf d) (advance d) (unbroken d) (Reached d)
+        (reachable-closed (List ℕ) (inputsOf d) (outputsOf d) (advance d) (unbroken d) (firstTuple d)) (q .0) (q .2) (stateCount d - q .0))
+
+    -- ---- what the entries mean
+
+    -- the same of a tuple's number
+    number-kept : (t : List ℕ) → Reached d t
+        → isIn (droppedOf d) (numberOf d t) ≡ keptAfter (List ℕ) (inputsOf d) (outputsOf d) (advance d) (unbroken d) (stateCount d) t
+    number-kept t r =
+        in-kept (numberOf d t) (reached-number d fits t .0 r)
+        ∙ ap (keptAfter (List ℕ) (inputsOf d) (outputsOf d) (advance d) (unbroken d) (stateCount d)) (number-state d fits t r)
+
+    -- a state is in exactly if every number of inputs can be survived from its tuple
+    pub in-iff : (t : List ℕ) → Reached d t → (isIn (droppedOf d) (numberOf d t) ≡ true) ↔ Kept d t
+    in-iff t r =
+        let x = kept-iff (List ℕ) (inputsOf d) (outputsOf d) (advance d) (unbroken d) (Reached d)
+        (reachable-closed (List ℕ) (inputsOf d) (outputsOf d) (advance d) (unbroken d) (firstTuple d)) (stateCount d) settled-quiet t r in
+        (λ e. x .0 (sym (number-kept t r) ∙ e), λ k. number-kept t r ∙ x .1 k)
+
+    -- and is dropped exactly if some number cannot
+    pub out-iff : (t : List ℕ) → Reached d t → (isIn (droppedOf d) (numberOf d t) ≡ false) ↔ Lost d t
+    out-iff t r =
+        let x = lost-iff (List ℕ) (inputsOf d) (outputsOf d) (advance d) (unbroken d) (Reached d)
+        (reachable-closed (List ℕ) (inputsOf d) (outputsOf d) (advance d) (unbroken d) (firstTuple d)) (stateCount d) settled-quiet t r in
+        (λ e. x .0 (sym (number-kept t r) ∙ e), λ k. number-kept t r ∙ x .1 k)
+
+    -- a step of the table leads in when its output may be given after as many rounds
+    leads-may : (k i o : ℕ) → k < stateCount d → i < inputsOf d → o < outputsOf d
+        → leadsIn (cellsOf d) (droppedOf d) (cellAt (inputsOf d) (outputsOf d) k i o)
+        ≡ may (List ℕ) (inputsOf d) (outputsOf d) (advance d) (unbroken d) (stateCount d) (stateOf d k) i o
+    unfolding may
+    leads-may k i o hk hi ho =
+        leads-game sheet-steps (droppedOf d)
+        (λ q. keptAfter (List ℕ) (inputsOf d) (outputsOf d) (advance d) (unbroken d) (stateCount d) (stateOf d q)) in-kept k i o hk hi ho
+        ∙ by-test (passes (cellsOf d) (inputsOf d) (outputsOf d) k i o)
+        (λ y. rw (y, sym (pass-is k i o hk hi ho) ∙ y, numbers-name .lands k i o hk hi ho y))
+        (λ y. rw (y, sym (pass-is k i o hk hi ho) ∙ y))
+
+    -- and so exactly if its output is allowed
+    pub leads-iff : (t : List ℕ) → Reached d t → (i o : ℕ) → i < inputsOf d → o < outputsOf d
+        → (leadsIn (cellsOf d) (droppedOf d) (cellAt (inputsOf d) (outputsOf d) (numberOf d t) i o) ≡ true) ↔ Allowed d t i o
+    leads-iff t r i o hi ho =
+        let x = allowed-iff (List ℕ) (inputsOf d) (outputsOf d) (advance d) (unbroken d) (Reached d)
+        (reachable-closed (List ℕ) (inputsOf d) (outputsOf d) (advance d) (unbroken d) (firstTuple d)) (stateCount d) settled-quiet
+        t i o r hi ho in
+        let e : leadsIn (cellsOf d) (droppedOf d) (cellAt (inputsOf d) (outputsOf d) (numberOf d t) i o)
+        ≡ may (List ℕ) (inputsOf d) (outputsOf d) (advance d) (unbroken d) (stateCount d) t i o =
+        leads-may (numberOf d t) i o (reached-number d fits t .0 r) hi ho
+        ∙ ap (λ (u : List ℕ). may (List ℕ) (inputsOf d) (outputsOf d) (advance d) (unbroken d) (stateCount d) u i o) (number-state d fits t r) in
+        (λ y. x .0 (sym e ∙ y), λ a. e ∙ x .1 a)

@@ -1,0 +1,59 @@
+-- The game over the numbers of a table of steps: its rounds are those of the table.
+-- Assumes nothing.
+use mathlib.Core.Path.{_≡_, sym, ap, _∙_}
+use mathlib.Core.Bool.{Bool, not, _&&_}
+use mathlib.Core.List.{List}
+use Prim.Native.Nat.{ℕ, zero, suc, _≤_, _<_}
+use native.Mathlib.Omega.{arith}
+use lib.Dec.{eqb}
+use lib.ListN.{length, getD}
+use borrow.Author.Tests.{eqb-false}
+use Rattle.records.specs.Laws.Tests.{by-test}
+use Rattle.records.specs.Laws.Bounded.{all-cong, any-cong}
+use Rattle.records.specs.Laws.Lists.{getD-put-front}
+use Rattle.records.specs.Model.Cells.{isBroken}
+use Rattle.rounds.specs.Model.Rounds.{Steps, cellAt, isIn, leadsIn, answered, stays, entryAfter, rounds}
+use Rattle.rounds.specs.Laws.Cells.{cell-in}
+use Rattle.rounds.specs.Laws.Rounds.{round-at, length-rounds}
+use Rattle.game.specs.Model.Rounds.{keeps, keptAfter, droppedBy}
+use Rattle.game.specs.Laws.Rounds.{kept-dropped}
+
+-- where a step leads, and whether it is unbroken
+unfoldable pub goes : List ℕ → ℕ → ℕ → ℕ → ℕ → ℕ → ℕ
+goes cells inputs outputs k i o = getD cells (cellAt inputs outputs k i o) 0
+
+unfoldable pub passes : List ℕ → ℕ → ℕ → ℕ → ℕ → ℕ → Bool
+passes cells inputs outputs k i o = not (isBroken (goes cells inputs outputs k i o))
+
+module _ {cells : List ℕ} {n inputs outputs : ℕ} (table : Steps cells n inputs outputs) where
+  -- where the kept numbers are those that are in, a step leads in when it passes and ends in a kept one
+  module _ (dropped : List ℕ) (kept : ℕ → Bool) (same : (q : ℕ) → q < n → isIn dropped q ≡ kept q) where
+    pub leads-game : (k i o : ℕ) → k < n → i < inputs → o < outputs
+        → leadsIn cells dropped (cellAt inputs outputs k i o)
+        ≡ passes cells inputs outputs k i o && kept (goes cells inputs outputs k i o)
+    unfolding leadsIn goes passes
+    leads-game k i o hk hi ho =
+        by-test (isBroken (getD cells (cellAt inputs outputs k i o) 0)) (λ y. rw y)
+        (λ y. rw y (same _ (table .inside _ (cell-in table hk hi ho) (eqb-false _ _ y))))
+
+    -- and a state stays when the game keeps it
+    pub stays-game : (k : ℕ) → k < n
+        → stays cells dropped inputs outputs k ≡ keeps ℕ inputs outputs (goes cells inputs outputs) (passes cells inputs outputs) kept k
+    unfolding stays answered keeps
+    stays-game k h = all-cong inputs _ _ (λ i hi. any-cong outputs _ _ (λ o ho. leads-game k i o h hi ho))
+
+  module _ (memory : List ℕ) (room : n ≤ length memory) where
+    -- an entry is the round of the game that dropped the number
+    pub rounds-game : (r k : ℕ) → k < n
+        → getD (rounds cells n inputs outputs memory r) k 0
+        ≡ droppedBy ℕ inputs outputs (goes cells inputs outputs) (passes cells inputs outputs) r k
+    unfolding rounds droppedBy entryAfter isIn
+    rounds-game zero k h = getD-put-front memory n _ k 0 h (omega arith)
+    rounds-game (suc r) k h =
+        let d : List ℕ = rounds cells n inputs outputs memory r in
+        let before : (q : ℕ) → q < n → isIn d q
+        ≡ keptAfter ℕ inputs outputs (goes cells inputs outputs) (passes cells inputs outputs) r q = λ q u.
+        ap (λ (x : ℕ). eqb x 0) (rounds-game r q u)
+        ∙ sym (kept-dropped ℕ inputs outputs (goes cells inputs outputs) (passes cells inputs outputs) r q) in
+        round-at cells n inputs outputs (suc r) d (rw (length-rounds cells n inputs outputs memory r) room) k h
+        ∙ rw (rounds-game r k h, stays-game d _ before k h)

@@ -1,0 +1,196 @@
+-- Laws of the rank: it orders outputs as document 01's output order does, and no two outputs have the same.
+-- Assumes nothing.
+use mathlib.Core.Path.{_≡_, refl, sym, _∙_}
+use mathlib.Core.Logic.{_↔_}
+use mathlib.Core.Bool.{Bool, true, false, cond}
+use mathlib.Core.List.{List}
+use Prim.Native.Nat.{ℕ, zero, suc, _+_, _*_, _/_, _%_, _^_, _≤_, _<_}
+use native.Mathlib.Nat.{pow-suc, mod-lt}
+use native.Mathlib.Decide.{decLt}
+use native.Mathlib.Numerals.{add-one}
+use native.Mathlib.Omega.{arith}
+use lib.Dec.{ltb, eqb}
+use lib.ListN.{length, getD}
+use lib.Pow.{pow-mono}
+use borrow.Author.Tests.{eqb-true, eqb-false, lt-ltb, le-ltb}
+use Rattle.records.specs.Laws.Tests.{by-test}
+use Rattle.records.specs.Laws.Bounded.{cases-suc, any-at, any-not}
+use Rattle.records.specs.Meaning.Bounded.{any}
+use Rattle.records.specs.Laws.Bits.{same-bits}
+use Rattle.records.specs.Meaning.Lists.{tab}
+use Rattle.records.specs.Laws.Lists.{length-tab, getD-tab}
+use Rattle.game.specs.Laws.Pigeonhole.{pigeonhole}
+use Rattle.values.specs.Meaning.Order.{holds, Higher}
+use Rattle.values.specs.Model.Rank.{rankBy, rank}
+
+-- a truth as a digit
+abbrev digit : Bool → ℕ
+digit b = cond b 1 0
+
+digit-low : (b : Bool) → digit b ≤ 1
+digit-low true = omega arith
+digit-low false = omega arith
+
+digit-same : (a b : Bool) → digit a ≡ digit b → a ≡ b
+digit-same true true e = refl
+digit-same true false e = absurd (omega arith)
+digit-same false true e = absurd (omega arith)
+digit-same false false e = refl
+
+digit-less : (a b : Bool) → digit a < digit b → (a ≡ false) × (b ≡ true)
+digit-less true b h = absurd (omega (arith, digit-low b))
+digit-less false true h = (refl, refl)
+digit-less false false h = absurd (omega arith)
+
+module _ (literals : List ℕ) where
+  -- as a loop that counts up finds it
+  pub rank-none : (o : ℕ) → rankBy literals 0 o ≡ 0
+  unfolding rankBy
+  rank-none o = refl
+
+  pub rank-more : (n o : ℕ) → rankBy literals (n + 1) o ≡ 2 * rankBy literals n o + cond (holds (getD literals n 0) o) 1 0
+  unfolding rankBy
+  rank-more n o = rw add-one
+
+  pub rank-low : (n o : ℕ) → rankBy literals n o < 2 ^ n
+  unfolding rankBy
+  rank-low zero o = omega arith
+  rank-low (suc n) o = omega (arith, rank-low n o, digit-low (holds (getD literals n 0) o), pow-suc 2 n)
+
+  -- three literals give ranks below 8
+  pub rank-small : (n o r : ℕ) → r ≡ rankBy literals n o → n ≤ 3 → r < 8
+  rank-small n o r e h = let most : 2 ^ n ≤ 2 ^ 3 = pow-mono {j = 3} h in omega (arith, rank-low n o)
+
+  -- the literals before n hold of both outputs or of neither
+  abbrev Alike : ℕ → ℕ → ℕ → Type 0
+  Alike n o q = (j : ℕ) → j < n → holds (getD literals j 0) o ≡ holds (getD literals j 0) q
+
+  pub alike-rank : (n o q : ℕ) → Alike n o q → rankBy literals n o ≡ rankBy literals n q
+  unfolding rankBy
+  alike-rank zero o q a = refl
+  alike-rank (suc n) o q a = rw (alike-rank n o q (λ j h. a j (omega arith)), a n (omega arith))
+
+  pub rank-alike : (n o q : ℕ) → rankBy literals n o ≡ rankBy literals n q → Alike n o q
+  unfolding rankBy
+  rank-alike zero o q e j h = absurd (omega arith)
+  rank-alike (suc n) o q e j h =
+      let x : digit (holds (getD literals n 0) o) ≤ 1 = digit-low (holds (getD literals n 0) o) in
+      let y : digit (holds (getD literals n 0) q) ≤ 1 = digit-low (holds (getD literals n 0) q) in
+      cases-suc j n h (rank-alike n o q (omega arith) j) (λ i. rw i (digit-same _ _ (omega arith)))
+
+  -- a smaller rank, and the first literal at which the outputs differ
+  rank-higher : (n o q : ℕ) → rankBy literals n q < rankBy literals n o
+      → (at : ℕ) × (at < n) × Alike at o q × (holds (getD literals at 0) o ≡ true) × (holds (getD literals at 0) q ≡ false)
+  unfolding rankBy
+  rank-higher zero o q h = absurd (omega arith)
+  rank-higher (suc n) o q h =
+      elim (decLt (rankBy literals n q) (rankBy literals n o)) [
+        | yes l ↦
+            let r = rank-higher n o q l in (r .0, omega (arith, r .1), r .2, r .3, r .4)
+        | no l ↦
+            let x : digit (holds (getD literals n 0) o) ≤ 1 = digit-low (holds (getD literals n 0) o) in
+            let y : digit (holds (getD literals n 0) q) ≤ 1 = digit-low (holds (getD literals n 0) q) in
+            let less = digit-less (holds (getD literals n 0) q) (holds (getD literals n 0) o) (omega arith) in
+            (n, omega arith, rank-alike n o q (omega arith), less .1, less .0)
+      ]
+
+  higher-rank : (n o q at : ℕ) → at < n → Alike at o q → holds (getD literals at 0) o ≡ true
+      → holds (getD literals at 0) q ≡ false → rankBy literals n q < rankBy literals n o
+  unfolding rankBy
+  higher-rank zero o q at h a t f = absurd (omega arith)
+  higher-rank (suc n) o q at h a t f =
+      cases-suc at n h
+      (λ l. omega (arith, higher-rank n o q at l a t f, digit-low (holds (getD literals n 0) q)))
+      (λ l.
+      let same : rankBy literals n o ≡ rankBy literals n q = alike-rank n o q (rw l at a) in
+      rw (same, rw l at t, rw l at f) (omega arith))
+
+  -- the rank is the output order
+  pub rank-order : (o q : ℕ) → (rank literals q < rank literals o) ↔ Higher literals o q
+  unfolding rank
+  rank-order o q = (
+    λ h.
+        let r = rank-higher (length literals) o q h in
+        record { at = r .0; inside = r .1; alike = r .2; above = r .3; below = r .4 },
+    λ h. higher-rank (length literals) o q (h .at) (h .inside) (h .alike) (h .above) (h .below),
+  )
+
+-- the rank by the first n literals of a longer list
+pub rank-front : (literals : List ℕ) (n o : ℕ) → rank (tab n (λ j. getD literals j 0)) o ≡ rankBy literals n o
+unfolding rank rankBy
+rank-front literals n o = rw length-tab (go n (omega arith))
+  where
+    go : (m : ℕ) → m ≤ n → rankBy (tab n (λ j. getD literals j 0)) m o ≡ rankBy literals m o
+    go zero h = refl
+    go (suc m) h = rw (go m (omega arith), getD-tab n (λ j. getD literals j 0) m 0 h)
+
+-- ---- each line named once: no two outputs have the same rank
+
+-- a function on the numbers below n into themselves, one to one, takes each of them as a value
+onto : (n : ℕ) (f : ℕ → ℕ) → ((j : ℕ) → j < n → f j < n) → ((a b : ℕ) → a < b → b < n → f a ≡ f b → ⊥)
+    → (m : ℕ) → m < n → (j : ℕ) × (j < n) × (f j ≡ m)
+onto n f low once m inside = by-test (any n (λ j. eqb (f j) m)) hit missed
+  where
+    hit : any n (λ j. eqb (f j) m) ≡ true → (j : ℕ) × (j < n) × (f j ≡ m)
+    hit e = let r = any-at n (λ j. eqb (f j) m) e in (r .0, r .1, eqb-true _ _ (r .2))
+
+    same : (a b : ℕ) → a < n → b < n → f a ≡ f b → a ≡ b
+    same a b ha hb e =
+        elim (decLt a b) [
+          | yes l ↦ absurd (once a b l hb e)
+          | no l ↦ elim (decLt b a) [ yes k ↦ absurd (once b a k ha (sym e)) | no k ↦ omega arith ]
+        ]
+
+    -- else f, with m as its value at n, is one to one on the numbers below n + 1
+    with-m : ℕ → ℕ
+    with-m j = cond (ltb j n) (f j) m
+
+    before : (j : ℕ) → j < n → with-m j ≡ f j
+    before j h = rw (lt-ltb j n h)
+
+    last : (j : ℕ) → j ≡ n → with-m j ≡ m
+    last j e = rw (le-ltb j n (omega arith))
+
+    missed : any n (λ j. eqb (f j) m) ≡ false → (j : ℕ) × (j < n) × (f j ≡ m)
+    missed e =
+        let none : (j : ℕ) → j < n → f j ≡ m → ⊥ = λ j h. eqb-false _ _ (any-not n (λ i. eqb (f i) m) e j h) in
+        absurd (omega (
+          arith,
+          pigeonhole (suc n) n with-m
+              (λ j h. cases-suc j n h (λ l. rw (before j l) (low j l)) (λ l. rw (last j l) inside))
+              (λ a b ha hb s.
+              cases-suc a n ha
+              (λ la. cases-suc b n hb
+              (λ lb. same a b la lb (sym (before a la) ∙ s ∙ before b lb))
+              (λ lb. absurd (none a la (sym (before a la) ∙ s ∙ last b lb))))
+              (λ la. cases-suc b n hb
+              (λ lb. absurd (none b lb (sym (before b lb) ∙ sym s ∙ last a la)))
+              (λ lb. omega arith))),
+        ))
+
+-- a literal tells its line's bit
+holds-bit : (literal o q : ℕ) → holds literal o ≡ holds literal q → o / 2 ^ (literal % 8) % 2 ≡ q / 2 ^ (literal % 8) % 2
+unfolding holds
+holds-bit literal o q e =
+    go (o / 2 ^ (literal % 8) % 2) (q / 2 ^ (literal % 8) % 2) (cond (ltb literal 8) 1 0)
+    (mod-lt _ (omega arith)) (mod-lt _ (omega arith)) (digit-low (ltb literal 8)) e
+  where
+    go : (a b w : ℕ) → a < 2 → b < 2 → w ≤ 1 → eqb a w ≡ eqb b w → a ≡ b
+    go a b w ha hb hw e =
+        by-test (eqb a w)
+        (λ t. omega (arith, eqb-true a w t, eqb-true b w (sym e ∙ t)))
+        (λ t.
+        let x : a ≡ w → ⊥ = eqb-false a w t in
+        let y : b ≡ w → ⊥ = eqb-false b w (sym e ∙ t) in
+        omega arith)
+
+pub rank-injective : (literals : List ℕ) (n : ℕ) → length literals ≡ n
+    → ((j : ℕ) → j < n → getD literals j 0 % 8 < n)
+    → ((i j : ℕ) → i < j → j < n → getD literals i 0 % 8 ≡ getD literals j 0 % 8 → ⊥)
+    → (o q : ℕ) → o < 2 ^ n → q < 2 ^ n → rank literals o ≡ rank literals q → o ≡ q
+unfolding rank
+rank-injective literals n size low once o q ho hq e =
+    same-bits n o q ho hq (λ m h.
+    let r = onto n (λ j. getD literals j 0 % 8) low once m h in
+    let alike = rank-alike literals n o q (rw size at e) (r .0) (r .1) in
+    rw (r .2) at (holds-bit (getD literals (r .0) 0) o q alike))
