@@ -10,7 +10,7 @@ ghost use lib.Seq.{sets};
 ghost use Rattle.board.specs.Meaning.Board.{changeNumber};
 ghost use Rattle.board.specs.Meaning.Load.{loadNumber};
 ghost use Rattle.board.specs.Meaning.Step.{stepNumber};
-ghost use Rattle.supervisor.specs.Meaning.Made.{madeNumber, madeLength, madeStates};
+ghost use Rattle.solve.specs.Meaning.Made.{madeNumber, madeLength, madeStates};
 ghost use Rattle.bytes.specs.Promises.Calls.{stepAnswer, figuresOf};
 
 pub fn load_number(answer: Load) -> u32

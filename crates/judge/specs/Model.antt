@@ -1,2 +1,1 @@
 -- Definitions that go the way the code goes.
-pub mod Opening

@@ -9,7 +9,7 @@ use sheet::layout::Verdict;
 use supervisor::make::Made;
 ghost use mathlib.Core.Path.{_≡_};
 ghost use mathlib.Core.Bool.{true};
-ghost use Rattle.supervisor.specs.Model.Making.{Answers};
+ghost use Rattle.solve.specs.Model.Making.{Answers};
 ghost use Rattle.plan.specs.Model.Table.{guardTableOf, statesOf};
 ghost use Rattle.plan.specs.Model.Planned.{Room};
 

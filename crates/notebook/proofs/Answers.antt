@@ -12,7 +12,7 @@ use Rattle.records.specs.Meaning.Numbers.{zeros}
 use Rattle.product.specs.Model.Numbered.{stateCount}
 use Rattle.supervisor.specs.Model.Table.{supervisorTable}
 use Rattle.supervisor.specs.Promises.Supervisor.{workOk, MakesSupervisor}
-use Rattle.supervisor.specs.declared.make.Made.{Made}
+use Rattle.solve.specs.declared.made.Made.{Made}
 use Rattle.guard.specs.Model.Table.{guardTableOf}
 use Rattle.guard.specs.Promises.Guard as guard
 use Rattle.guard.specs.Promises.Guard.{guardStates, Work, MakesGuard}

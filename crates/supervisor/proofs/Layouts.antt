@@ -1,4 +1,4 @@
--- A layout that fits, in the code's numbers: its lines, how many inputs and outputs they make, and its table's judging.
+-- A table's judging, in the code's numbers.
 -- Assumes nothing.
 use mathlib.Core.Path.{_≡_, sym, ap, subst, _∙_}
 use mathlib.Core.Bool.{Bool, true}
@@ -16,29 +16,13 @@ use Rattle.sheet.specs.declared.layout.Refusal.the-variants as ground
 use Rattle.product.specs.Model.Numbered.{stateCount}
 use Rattle.masks.specs.Model.Rows.{tableRow, tableLength}
 use Rattle.supervisor.specs.Model.Table.{supervisorTable}
-use Rattle.supervisor.specs.Model.Solve.{Solution}
-use Rattle.supervisor.specs.Model.Making.{Judges}
-use Rattle.supervisor.specs.Laws.Solving.{inputs-most, outputs-most, layout-inputs, layout-outputs}
+use Rattle.solve.specs.Model.Solve.{Solution}
+use Rattle.solve.specs.Model.Making.{Judges}
+use Rattle.solve.specs.Laws.Solving.{layout-inputs}
 use Rattle.supervisor.specs.Laws.Written.{solved-short, layout-made}
-use Rattle.supervisor.specs.declared.make.Made.the-variants.{Table, Refused}
+use Rattle.solve.specs.declared.made.Made.the-variants.{Table, Refused}
 
 module _ {s : List ℕ} {h : Sheet} (fits : Fits s h) where
-  -- lines
-  pub inputs-low : h .inputs ≤ 4
-  unfolding decoded
-  inputs-low = omega (arith, fits .inputs, fits .ok .head .inputs)
-
-  pub outputs-low : h .outputs ≤ 3
-  unfolding decoded
-  outputs-low = fits .ok .head .outputs-most
-
-  -- what they make
-  pub few-inputs : {n : ℕ} → n ≡ 2 ^ h .inputs → n ≤ 16
-  few-inputs e = omega (arith, layout-inputs fits, inputs-most (decoded s h) (fits .ok .head))
-
-  pub few-outputs : {n : ℕ} → n ≡ 2 ^ h .outputs → n ≤ 8
-  few-outputs e = omega (arith, layout-outputs s h, outputs-most (decoded s h) (fits .ok .head))
-
   -- the table does not fit into the result
   module _
       {n kept : ℕ} {start : Bool} {tuples cells dropped : List ℕ}

@@ -1,10 +1,6 @@
 -- Theorems that other crates and the sources cite.
-pub mod Numbered
-pub mod Entries
 pub mod Bytes
 pub mod Demand
 pub mod Only
-pub mod Grounds
-pub mod Solving
-pub mod Judging
+pub mod Solved
 pub mod Written

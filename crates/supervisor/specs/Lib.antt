@@ -1,5 +1,4 @@
--- The supervisor of a sheet: what is allowed (Meaning), the table's model (Table), what solving leaves (Solve), what every
-pub mod Meaning
+-- The supervisor of a sheet: the table's model (Model), and what its maker promises (Promises).
 pub mod Model
 pub mod Promises
 pub mod Laws

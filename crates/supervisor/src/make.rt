@@ -19,7 +19,7 @@ ghost use Rattle.records.specs.Meaning.Numbers.{zeros};
 ghost use Rattle.sheet.specs.Model.Where.{Fits, decoded};
 ghost use Rattle.product.specs.Model.Numbered.{stateCount};
 ghost use Rattle.supervisor.specs.Model.Table.{supervisorTable};
-ghost use Rattle.supervisor.specs.Model.Making.{Answers, Judges};
+ghost use Rattle.solve.specs.Model.Making.{Answers, Judges};
 ghost use Rattle.supervisor.specs.Promises.Supervisor.{workOk, MakesSupervisor};
 
 // What a maker answers: the bytes of the table and the states that it has, or the ground of the refusal.

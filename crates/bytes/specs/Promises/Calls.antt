@@ -15,8 +15,8 @@ use Rattle.board.specs.declared.answers.Step.{Step}
 use Rattle.board.specs.declared.answers.Loading.{Loading}
 use Rattle.board.specs.declared.answers.Stepping.{Stepping}
 use Rattle.board.specs.declared.answers.Changing.{Changing}
-use Rattle.supervisor.specs.Meaning.Made.{madeNumber, madeLength, madeStates}
-use Rattle.supervisor.specs.declared.make.Made.{Made}
+use Rattle.solve.specs.Meaning.Made.{madeNumber, madeLength, madeStates}
+use Rattle.solve.specs.declared.made.Made.{Made}
 use Rattle.bytes.specs.Meaning.Board.{boardIn, boardBytes}
 
 -- ---- boards: `before` and `after` are the board's bytes

@@ -9,8 +9,8 @@ use Rattle.sheet.specs.Meaning.Decoded.{Decoded, SheetOk, inputLines}
 use Rattle.product.specs.Meaning.Step.{inputsOf, advance, firstTuple}
 use Rattle.product.specs.Model.Numbered.{stateCount}
 use Rattle.game.specs.Laws.Simulation.{agrees}
-use Rattle.supervisor.specs.Meaning.Allowed.Allowed.{Kept}
-use Rattle.supervisor.specs.Laws.Grounds.{start-in}
+use Rattle.solve.specs.Meaning.Allowed.{Kept}
+use Rattle.solve.specs.Laws.Grounds.{start-in}
 use Rattle.board.specs.Meaning.Board.{live}
 use Rattle.board.specs.declared.Board.{Board}
 use Rattle.guard.specs.Meaning.Guard.{Move, strays, after, says, Shows, Faithful}

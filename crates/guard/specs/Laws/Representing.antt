@@ -13,9 +13,9 @@ use Rattle.product.specs.Model.Numbered.{stateCount, stateOf}
 use Rattle.product.specs.Laws.Numbered.{first-state}
 use Rattle.game.specs.Laws.Guard as guard
 use Rattle.game.specs.Laws.Simulation.{Represents}
-use Rattle.supervisor.specs.Meaning.Allowed.Allowed.{Kept}
-use Rattle.supervisor.specs.Laws.Entries.{settled-quiet}
-use Rattle.supervisor.specs.Laws.Grounds.{start-in}
+use Rattle.solve.specs.Meaning.Allowed.{Kept}
+use Rattle.solve.specs.Laws.Entries.{settled-quiet}
+use Rattle.solve.specs.Laws.Grounds.{start-in}
 use Rattle.values.specs.Meaning.Order.{Higher}
 use Rattle.values.specs.Model.Rank.{rank}
 use Rattle.values.specs.Laws.Ranks.{rank-order, rank-injective}

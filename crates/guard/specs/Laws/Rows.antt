@@ -20,9 +20,9 @@ use Rattle.game.specs.Laws.Numbering.{distinct-number}
 use Rattle.game.specs.Laws.Explored.{explored-first-met}
 use Rattle.game.specs.Laws.OnlyNumbering.{only-numbering}
 use Rattle.rounds.specs.Model.Rounds.{isIn}
-use Rattle.supervisor.specs.Model.Table.{droppedOf}
-use Rattle.supervisor.specs.Meaning.Allowed.Allowed.{Kept}
-use Rattle.supervisor.specs.Laws.Grounds.{start-in}
+use Rattle.solve.specs.Model.Steps.{droppedOf}
+use Rattle.solve.specs.Meaning.Allowed.{Kept}
+use Rattle.solve.specs.Laws.Grounds.{start-in}
 use Rattle.values.specs.Model.Guard.{chosen, follows, guardStates}
 use Rattle.values.specs.Laws.Numbered.{eqb-sound, eqb-self}
 use Rattle.plan.specs.Laws.Best.{choice-is}

@@ -19,7 +19,7 @@ use Rattle.game.specs.Meaning.History as history
 use Rattle.game.specs.Meaning.Book.{Call, load, step, rewind, unload, give, refuse, deviations}
 use Rattle.game.specs.Model.Machine.{RunsTable}
 use Rattle.rounds.specs.Model.Rounds.{isIn}
-use Rattle.supervisor.specs.Model.Table.{droppedOf}
+use Rattle.solve.specs.Model.Steps.{droppedOf}
 use Rattle.board.specs.Meaning.Board.{live, runAt, rewindOn, unloadOn, changeNumber}
 use Rattle.tables.specs.Meaning.Loadable.{loadable}
 use Rattle.board.specs.Meaning.Load.{boardOf, loadOn, loadNumber}

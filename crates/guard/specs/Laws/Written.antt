@@ -8,11 +8,11 @@ use Rattle.sheet.specs.Meaning.Decoded.{Decoded}
 use Rattle.sheet.specs.Model.Reader.{reading}
 use Rattle.sheet.specs.Promises.Reader.{Reads}
 use Rattle.sheet.specs.Laws.Reading.{reads, only-sheet}
-use Rattle.supervisor.specs.Meaning.Allowed.Allowed.{Accepted}
-use Rattle.supervisor.specs.Model.Making.{Answers}
-use Rattle.supervisor.specs.Promises.Making.{Makes}
-use Rattle.supervisor.specs.Laws.Judging.{Only, makes, accepted-fits, written-front}
-use Rattle.supervisor.specs.declared.make.Made.{Made}
+use Rattle.solve.specs.Meaning.Allowed.{Accepted}
+use Rattle.solve.specs.Model.Making.{Answers}
+use Rattle.solve.specs.Promises.Making.{Makes}
+use Rattle.solve.specs.Laws.Judging.{Only, makes, accepted-fits, written-front}
+use Rattle.solve.specs.declared.made.Made.{Made}
 use Rattle.plan.specs.Laws.Solved.{sheet-horizon}
 use Rattle.guard.specs.Model.Table.{guardTableOf}
 use Rattle.guard.specs.Promises.Guard.{Work, workOk, guardStates, Rows, MakesGuard}

@@ -16,7 +16,7 @@ use Rattle.game.specs.Meaning.Machine.{Agrees}
 use Rattle.sheet.specs.Meaning.Decoded.{Decoded, inputLines}
 use Rattle.product.specs.Meaning.Step.{inputsOf, outputsOf, advance, reward, differs, firstTuple}
 use Rattle.values.specs.Meaning.Order.{Higher}
-use Rattle.supervisor.specs.Meaning.Allowed.Allowed.{Allowed}
+use Rattle.solve.specs.Meaning.Allowed.{Allowed}
 use Rattle.board.specs.Meaning.Board.{live, rewindOn, unloadOn, changeNumber}
 use Rattle.board.specs.Meaning.Load.{loadOn, loadNumber}
 use Rattle.board.specs.Meaning.Step.{stepOn, stepNumber, stepOutput}

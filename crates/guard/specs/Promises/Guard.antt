@@ -9,11 +9,11 @@ use lib.ListN.{length, getD, take}
 use Rattle.records.specs.Meaning.GuardTable.{guardTable}
 use Rattle.sheet.specs.Meaning.Decoded.{Decoded, inputLines}
 use Rattle.product.specs.Meaning.Step.{inputsOf, advance, firstTuple}
-use Rattle.supervisor.specs.Meaning.Allowed.Allowed.{Accepted}
-use Rattle.supervisor.specs.Meaning.Made.{madeNumber, madeLength, madeStates}
-use Rattle.supervisor.specs.Promises.Making.{Makes}
+use Rattle.solve.specs.Meaning.Allowed.{Accepted}
+use Rattle.solve.specs.Meaning.Made.{madeNumber, madeLength, madeStates}
+use Rattle.solve.specs.Promises.Making.{Makes}
 use Rattle.supervisor.specs.Promises.Supervisor.{tuplesLength, cellsLength, droppedLength}
-use Rattle.supervisor.specs.declared.make.Made.{Made}
+use Rattle.solve.specs.declared.made.Made.{Made}
 use Rattle.guard.specs.Meaning.Guard.{Move, GuardStates, Faithful}
 use Rattle.guard.specs.Model.Table.{guardTableOf, guardCount}
 

@@ -13,10 +13,10 @@ use Rattle.sheet.specs.Meaning.Decoded.{Decoded, inputLines}
 use Rattle.sheet.specs.Model.Where.{Fits, decoded}
 use Rattle.sheet.specs.declared.layout.Sheet.{Sheet}
 use Rattle.sheet.specs.declared.layout.Refusal.the-variants as ground
-use Rattle.supervisor.specs.Model.Solve.{Solution}
-use Rattle.supervisor.specs.Model.Making.{Judges}
-use Rattle.supervisor.specs.Laws.Judging.{judges-lost, judges-short, judges-made}
-use Rattle.supervisor.specs.declared.make.Made.the-variants.{Table, Refused}
+use Rattle.solve.specs.Model.Solve.{Solution}
+use Rattle.solve.specs.Model.Making.{Judges}
+use Rattle.solve.specs.Laws.Judging.{judges-lost, judges-short, judges-made}
+use Rattle.solve.specs.declared.made.Made.the-variants.{Table, Refused}
 use Rattle.values.specs.Model.Values.{Game}
 use Rattle.rows.specs.Model.Entered.{tableBy}
 use Rattle.plan.specs.Model.Table.{guardCount, outputOf, nextOf, guardOver, guardTableOf, statesOf}

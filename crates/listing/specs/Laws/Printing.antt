@@ -24,11 +24,11 @@ use Rattle.sheet.specs.Laws.Reading.{reads}
 use Rattle.sheet.specs.declared.layout.Refusal.{Refusal}
 use Rattle.product.specs.Model.Numbered.{stateCount}
 use Rattle.rounds.specs.Model.Rounds.{isIn}
-use Rattle.supervisor.specs.Model.Table.{droppedOf}
-use Rattle.supervisor.specs.Model.Making.{sheetOf, tableNumber, makingNumber, Answers}
+use Rattle.solve.specs.Model.Steps.{droppedOf}
+use Rattle.solve.specs.Model.Making.{sheetOf, tableNumber, makingNumber, Answers}
 use Rattle.supervisor.specs.Promises.Supervisor.{tuplesLength, cellsLength, droppedLength}
-use Rattle.supervisor.specs.declared.make.Made.{Made}
-use Rattle.supervisor.specs.declared.make.Made.the-variants.{Table, Refused}
+use Rattle.solve.specs.declared.made.Made.{Made}
+use Rattle.solve.specs.declared.made.Made.the-variants.{Table, Refused}
 use Rattle.tables.specs.Meaning.Loadable.{loadable}
 use Rattle.guard.specs.Model.Table.{outputOf, nextOf, guardOver, guardTableOf}
 use Rattle.guard.specs.Promises.Guard.{gainsLength, bonusesLength, valuesLength, choicesLength, orderLength, guardStates, Work, workOk, MakesGuard}

@@ -12,8 +12,8 @@ use Rattle.sheet.specs.Meaning.Decoded.{Decoded}
 use Rattle.sheet.specs.Meaning.Refusals.{sheetNumber, firstNumber}
 use Rattle.product.specs.Model.Numbered.{stateCount}
 use Rattle.rounds.specs.Model.Rounds.{isIn}
-use Rattle.supervisor.specs.Model.Table.{droppedOf}
-use Rattle.supervisor.specs.Model.Making.{sheetOf}
+use Rattle.solve.specs.Model.Steps.{droppedOf}
+use Rattle.solve.specs.Model.Making.{sheetOf}
 use Rattle.guard.specs.Model.Table.{guardTableOf}
 use Rattle.text.specs.Meaning.Listing.{listingOf, refusedText, tooLongText}
 

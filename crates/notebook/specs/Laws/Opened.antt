@@ -24,9 +24,10 @@ use Rattle.product.specs.Meaning.Step.{proposal, differs, siteLetter, nextState
 use Rattle.product.specs.Model.States.{same}
 use Rattle.product.specs.Model.Numbered.{statesAfter, productStates, stateCount, stateOf, numberOf, cellOf}
 use Rattle.rounds.specs.Model.Rounds.{cellAt, isIn, leadsIn, answered, stays, entryAfter, round, rounds, settled, maskOf}
-use Rattle.supervisor.specs.Model.Table.{cellsOf, droppedOf, tableHead, tableOf, supervisorTable}
+use Rattle.solve.specs.Model.Steps.{cellsOf, droppedOf}
+use Rattle.supervisor.specs.Model.Table.{tableHead, tableOf, supervisorTable}
 use Rattle.masks.specs.Model.Rows.{keptFlag, tableRow}
-use Rattle.supervisor.specs.Model.Making.{sheetOf, tableNumber, makingNumber}
+use Rattle.solve.specs.Model.Making.{sheetOf, tableNumber, makingNumber}
 use Rattle.values.specs.Meaning.Order.{holds}
 use Rattle.values.specs.Model.Rank.{rankBy, rank}
 use Rattle.values.specs.Model.Values as values

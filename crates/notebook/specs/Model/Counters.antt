@@ -10,9 +10,9 @@ use Rattle.records.specs.Meaning.Lists.{tab}
 use Rattle.records.specs.Laws.Lists.{length-tab}
 use Rattle.sheet.specs.Meaning.Decoded.{Automaton, Decoded, encode}
 use Rattle.product.specs.Laws.Numbered.{same-equal}
-use Rattle.supervisor.specs.Model.Making.{sheetOf, makingNumber}
-use Rattle.supervisor.specs.Meaning.Made.{madeNumber, madeStates}
-use Rattle.supervisor.specs.declared.make.Made.{Made}
+use Rattle.solve.specs.Model.Making.{sheetOf, makingNumber}
+use Rattle.solve.specs.Meaning.Made.{madeNumber, madeStates}
+use Rattle.solve.specs.declared.made.Made.{Made}
 use Rattle.notebook.specs.Laws.Opened.{sheets}
 
 -- a counter of n states in state q after output o: one further if the line is on, and from the last to the first; `power` is

@@ -29,8 +29,8 @@ use Rattle.records.specs.Model.Cells.{isBroken}
 use Rattle.rounds.specs.Model.Rounds.{Steps, cellAt, isIn, leadsIn}
 use Rattle.rounds.specs.Laws.Cells.{cell-in}
 use Rattle.rounds.specs.Laws.Agree.{in-agree, leads-agree}
-use Rattle.supervisor.specs.Model.Table.{droppedOf}
-use Rattle.supervisor.specs.Laws.Entries.{sheet-steps, some-letter}
+use Rattle.solve.specs.Model.Steps.{droppedOf}
+use Rattle.solve.specs.Laws.Entries.{sheet-steps, some-letter}
 use Rattle.values.specs.Model.Rank.{rank}
 use Rattle.values.specs.Model.Values.{Game, mayGive, nextOf, earns, scoreOf, worth, valueRow, choiceOf, choices}
 use Rattle.values.specs.Model.Guard.{chosen, follows, guardStates, guardNumber}

@@ -24,8 +24,8 @@ use Rattle.product.specs.Laws.Numbered.{some-state, state-reached}
 use Rattle.game.specs.Meaning.Reachable.{begin, onward}
 use Rattle.rounds.specs.Model.Rounds.{isIn}
 use Rattle.rounds.specs.Laws.Agree.{in-agree}
-use Rattle.supervisor.specs.Model.Table.{droppedOf}
-use Rattle.supervisor.specs.Laws.Solving.{inputs-most, outputs-most, letters-most, layout-inputs, layout-outputs}
+use Rattle.solve.specs.Model.Steps.{droppedOf}
+use Rattle.solve.specs.Laws.Solving.{inputs-most, outputs-most, letters-most, layout-inputs, layout-outputs}
 use Rattle.values.specs.Model.Values.{Game, Sized, valueRow}
 use Rattle.values.specs.Model.Sizes.{Valued}
 use Rattle.values.specs.Model.Sizes as sizes

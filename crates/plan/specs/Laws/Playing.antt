@@ -17,9 +17,9 @@ use Rattle.game.specs.Laws.Reachable.{letter-low, letter-input, letter-output}
 use Rattle.game.specs.Laws.Naming.{Names}
 use Rattle.records.specs.Model.Cells.{isBroken}
 use Rattle.rounds.specs.Model.Rounds.{leadsIn}
-use Rattle.supervisor.specs.Model.Table.{cellsOf, droppedOf}
-use Rattle.supervisor.specs.Laws.Numbered.{goes, passes, leads-game}
-use Rattle.supervisor.specs.Laws.Entries.{sheet-steps, numbers-name, in-kept}
+use Rattle.solve.specs.Model.Steps.{cellsOf, droppedOf}
+use Rattle.solve.specs.Laws.Numbered.{goes, passes, leads-game}
+use Rattle.solve.specs.Laws.Entries.{sheet-steps, numbers-name, in-kept}
 use Rattle.values.specs.Model.Values.{mayGive, nextOf, earns}
 use Rattle.plan.specs.Model.Table.{gainsOf, bonusOf, bonusesOf, gameOf}
 use Rattle.plan.specs.Model.Playing.{mayAt, Inside}

@@ -21,8 +21,8 @@ use Rattle.game.specs.Model.Choice.{Leads}
 use Rattle.game.specs.Laws.Choice.{choose-leads}
 use Rattle.game.specs.Model.Value.{choice}
 use Rattle.rounds.specs.Model.Rounds.{isIn}
-use Rattle.supervisor.specs.Model.Table.{droppedOf}
-use Rattle.supervisor.specs.Laws.Entries.{in-kept, settled-quiet}
+use Rattle.solve.specs.Model.Steps.{droppedOf}
+use Rattle.solve.specs.Laws.Entries.{in-kept, settled-quiet}
 use Rattle.values.specs.Model.Rank.{rank}
 use Rattle.values.specs.Model.Values.{mayGive}
 use Rattle.values.specs.Model.Guard.{chosen, follows, guardStates, guardNumber}

@@ -27,9 +27,9 @@ use Rattle.product.specs.Model.States.{lettersOf}
 use Rattle.product.specs.Model.Numbered.{stateCount, stateOf}
 use Rattle.game.specs.Model.Numbering.{find}
 use Rattle.rounds.specs.Model.Rounds.{Steps, isIn}
-use Rattle.supervisor.specs.Model.Table.{droppedOf}
-use Rattle.supervisor.specs.Model.Solve.{Solution}
-use Rattle.supervisor.specs.Laws.Solving.{inputs-most, outputs-most, letters-most, cells-most, cells-agree, numbering-steps}
+use Rattle.solve.specs.Model.Steps.{droppedOf}
+use Rattle.solve.specs.Model.Solve.{Solution}
+use Rattle.solve.specs.Laws.Solving.{inputs-most, outputs-most, letters-most, cells-most, cells-agree, numbering-steps}
 use Rattle.values.specs.Model.Values.{Game, Sized}
 use Rattle.values.specs.Model.Guard.{chosen, follows}
 use Rattle.plan.specs.Model.Table as table

@@ -6,7 +6,7 @@ use mathlib.Core.List.{List}
 use Prim.Native.Nat.{ℕ, _≤_}
 use lib.ListN.{length}
 use Rattle.sheet.specs.Meaning.Decoded.{Decoded, inputLines}
-use Rattle.supervisor.specs.Model.Solve.{Solution}
+use Rattle.solve.specs.Model.Solve.{Solution}
 use Rattle.values.specs.Model.Values.{Game}
 use Rattle.plan.specs.Model.Table.{guardCount, guardOver}
 use Rattle.rows.specs.Model.Entered.{tableBy, Tabled}

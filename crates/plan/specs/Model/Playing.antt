@@ -10,7 +10,7 @@ use Rattle.product.specs.Model.Numbered.{stateCount}
 use Rattle.game.specs.Model.Rounds.{may}
 use Rattle.game.specs.Model.Value.{value, score, choice}
 use Rattle.rounds.specs.Model.Rounds.{isIn}
-use Rattle.supervisor.specs.Model.Table.{droppedOf}
+use Rattle.solve.specs.Model.Steps.{droppedOf}
 use Rattle.values.specs.Model.Rank.{rank}
 
 -- ---- the game of a sheet's tuples

@@ -12,7 +12,7 @@ use Rattle.sheet.specs.Meaning.Decoded.{Decoded, inputLines}
 use Rattle.product.specs.Meaning.Step.{inputsOf, outputsOf, softReward, weightOf, equalLines}
 use Rattle.product.specs.Model.States.{lettersOf}
 use Rattle.product.specs.Model.Numbered.{stateCount, stateOf}
-use Rattle.supervisor.specs.Model.Table.{cellsOf, droppedOf}
+use Rattle.solve.specs.Model.Steps.{cellsOf, droppedOf}
 use Rattle.values.specs.Model.Values.{Game, valueRow, choices}
 use Rattle.values.specs.Model.Guard.{chosen, follows, guardStates, guardNumber}
 

@@ -27,8 +27,8 @@ use Rattle.text.specs.Laws.Lengths.{length-entry, length-row, length-head, leng
 use Rattle.sheet.specs.Meaning.Grounds.{groundNumber}
 use Rattle.sheet.specs.declared.layout.Refusal.{Refusal}
 use Rattle.sheet.specs.declared.layout.Refusal.the-variants.{Truncated, Misplaced, BadHead, BadMonitor, SeventhMonitor, LongHorizon, TooManyStates, Unrealizable, ShortResult, ShortWork}
-use Rattle.supervisor.specs.declared.make.Made.{Made}
-use Rattle.supervisor.specs.declared.make.Made.the-variants.{Table, Refused}
+use Rattle.solve.specs.declared.made.Made.{Made}
+use Rattle.solve.specs.declared.made.Made.the-variants.{Table, Refused}
 use Rattle.report.specs.Promises.Report.{listedNumber, textNumber, textLength, Writes, outcomeDue, outcomeText}
 use Rattle.report.specs.declared.Listed.{Listed}
 use Rattle.report.specs.declared.Listed.the-variants.{Text, NoTable, ShortText}

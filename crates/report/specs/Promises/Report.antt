@@ -9,8 +9,8 @@ use lib.ListN.{length, take}
 use lib.Seq.{sets}
 use Rattle.tables.specs.Meaning.Loadable.{loadable}
 use Rattle.sheet.specs.Meaning.Grounds.{groundNumber}
-use Rattle.supervisor.specs.declared.make.Made.{Made}
-use Rattle.supervisor.specs.declared.make.Made.the-variants.{Table, Refused}
+use Rattle.solve.specs.declared.made.Made.{Made}
+use Rattle.solve.specs.declared.made.Made.the-variants.{Table, Refused}
 use Rattle.text.specs.Meaning.Listing.{listingOf, refusedText}
 use Rattle.report.specs.declared.Listed.{Listed}
 use Rattle.report.specs.declared.Listed.the-variants.{Text, NoTable, ShortText}

@@ -14,7 +14,8 @@ use Rattle.rounds.specs.Model.Rounds.{maskOf}
 use Rattle.masks.specs.Meaning.SupervisorTable.{maskTable}
 use Rattle.masks.specs.Model.Rows.{keptFlag, tableRow, rowLength, tableLength}
 use Rattle.masks.specs.Laws.Rows.{row-format, length-row}
-use Rattle.supervisor.specs.Model.Table.{cellsOf, droppedOf, supervisorTable, tableHead, tableOf}
+use Rattle.solve.specs.Model.Steps.{cellsOf, droppedOf}
+use Rattle.supervisor.specs.Model.Table.{supervisorTable, tableHead, tableOf}
 
 module _ (d : Decoded) (n : ℕ) (cells dropped : List ℕ) where
   -- a table has a head of nine bytes and n rows

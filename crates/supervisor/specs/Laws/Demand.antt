@@ -25,9 +25,10 @@ use Rattle.game.specs.Laws.Supervisor.{permissive-supervises, permissive-greate
 use Rattle.rounds.specs.Model.Rounds.{isIn, maskOf}
 use Rattle.rounds.specs.Laws.Masks.{allows, mask-lt, mask-says, mask-past, mask-lost}
 use Rattle.masks.specs.Model.Rows.{keptFlag, rowLength, tableLength}
-use Rattle.supervisor.specs.Meaning.Allowed.Allowed.{Kept, Lost, Allowed, AllowedAfter, MaximallyPermissive}
-use Rattle.supervisor.specs.Model.Table.{cellsOf, droppedOf, supervisorTable}
-use Rattle.supervisor.specs.Laws.Entries.{settled-quiet, in-iff, out-iff, leads-iff}
+use Rattle.solve.specs.Meaning.Allowed.{Kept, Lost, Allowed, AllowedAfter, MaximallyPermissive}
+use Rattle.solve.specs.Model.Steps.{cellsOf, droppedOf}
+use Rattle.supervisor.specs.Model.Table.{supervisorTable}
+use Rattle.solve.specs.Laws.Entries.{settled-quiet, in-iff, out-iff, leads-iff}
 use Rattle.supervisor.specs.Laws.Bytes.{table-length, table-format}
 use Rattle.supervisor.specs.Promises.Supervisor.{Means}
 

@@ -13,7 +13,7 @@ use Rattle.sheet.specs.Meaning.Decoded.{Decoded}
 use Rattle.product.specs.Meaning.Step.{inputsOf, firstTuple}
 use Rattle.product.specs.Laws.Ordered.{product-states-once}
 use Rattle.masks.specs.Meaning.SupervisorTable.{maskRow, maskTable}
-use Rattle.supervisor.specs.Meaning.Allowed.Allowed.{Kept, Lost, Allowed}
+use Rattle.solve.specs.Meaning.Allowed.{Kept, Lost, Allowed}
 use Rattle.supervisor.specs.Promises.Supervisor.{Means}
 
 -- numbers at most 1 of which one is 1 where the other is, and 0 where the other is, are equal

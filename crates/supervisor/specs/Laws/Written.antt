@@ -26,18 +26,19 @@ use Rattle.product.specs.Meaning.Step.{inputsOf, outputsOf}
 use Rattle.product.specs.Model.Numbered.{stateCount}
 use Rattle.masks.specs.Model.Rows.{tableRow, tableLength}
 use Rattle.supervisor.specs.Model.Table.{tableHead, tableOf, supervisorTable}
-use Rattle.supervisor.specs.Model.Solve.{Solution}
-use Rattle.supervisor.specs.Meaning.Allowed.Allowed.{Accepted}
-use Rattle.supervisor.specs.Model.Making.{Judges, Answers}
-use Rattle.supervisor.specs.Promises.Making.{Makes}
+use Rattle.solve.specs.Model.Solve.{Solution}
+use Rattle.solve.specs.Meaning.Allowed.{Accepted}
+use Rattle.solve.specs.Model.Making.{Judges, Answers}
+use Rattle.solve.specs.Promises.Making.{Makes}
 use Rattle.supervisor.specs.Promises.Supervisor.{tuplesLength, cellsLength, droppedLength, workOk, Means, MakesSupervisor}
 use Rattle.supervisor.specs.Laws.Bytes.{length-table}
-use Rattle.supervisor.specs.Laws.Solving.{layout-inputs, layout-outputs, layout-head, solution-table}
+use Rattle.solve.specs.Laws.Solving.{layout-inputs, layout-outputs}
+use Rattle.supervisor.specs.Laws.Solved.{layout-head, solution-table}
 use Rattle.supervisor.specs.Laws.Demand.{means}
 use Rattle.supervisor.specs.Laws.Only.{only-table}
-use Rattle.supervisor.specs.Laws.Judging.{Only, judges-lost, judges-short, judges-made, makes, accepted-fits, written-front}
-use Rattle.supervisor.specs.declared.make.Made.{Made}
-use Rattle.supervisor.specs.declared.make.Made.the-variants.{Table, Refused}
+use Rattle.solve.specs.Laws.Judging.{Only, judges-lost, judges-short, judges-made, makes, accepted-fits, written-front}
+use Rattle.solve.specs.declared.made.Made.{Made}
+use Rattle.solve.specs.declared.made.Made.the-variants.{Table, Refused}
 
 -- ---- work memory
 

@@ -14,11 +14,11 @@ use Rattle.product.specs.Meaning.States.{ProductStates}
 use Rattle.product.specs.Model.Numbered.{stateCount}
 use Rattle.game.specs.Meaning.History.{Step, reached, Permitted}
 use Rattle.masks.specs.Meaning.SupervisorTable.{maskTable}
-use Rattle.supervisor.specs.Meaning.Allowed.Allowed.{Kept, Lost, Allowed, Accepted, AllowedAfter, MaximallyPermissive}
+use Rattle.solve.specs.Meaning.Allowed.{Kept, Lost, Allowed, Accepted, AllowedAfter, MaximallyPermissive}
 use Rattle.supervisor.specs.Model.Table.{supervisorTable}
-use Rattle.supervisor.specs.Meaning.Made.{madeNumber, madeLength, madeStates}
-use Rattle.supervisor.specs.Promises.Making.{Makes}
-use Rattle.supervisor.specs.declared.make.Made.{Made}
+use Rattle.solve.specs.Meaning.Made.{madeNumber, madeLength, madeStates}
+use Rattle.solve.specs.Promises.Making.{Makes}
+use Rattle.solve.specs.declared.made.Made.{Made}
 
 -- ---- work memory: how long each slice must be (docs/MEMORY.md says what it holds)
 

@@ -7,7 +7,7 @@ use Rattle.sheet.specs.declared.layout.Verdict.{Verdict}
 use Rattle.rows.specs.Laws.Entered.{count-most}
 use Rattle.plan.specs.Model.Planned.{Room}
 use Rattle.plan.specs.Laws.Planned.{inputs-low, outputs-low, horizon-in-bounds}
-use Rattle.judge.specs.Model.Opening.{Ready, Opens}
+use Rattle.solve.specs.Model.Opening.{Ready, Opens}
 use Rattle.judge.specs.Laws.Judged.{layout-short, layout-written}
 use borrow.Author.Needs.{needs}
 use Rattle.judge.proofs.make.make_with.Statement.{statement}

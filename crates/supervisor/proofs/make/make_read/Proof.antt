@@ -9,11 +9,11 @@ use Rattle.sheet.specs.Model.Where.{decoded}
 use Rattle.product.specs.Model.Numbered.{stateCount}
 use Rattle.masks.specs.Model.Rows.{tableLength}
 use Rattle.supervisor.specs.Model.Table.{supervisorTable}
-use Rattle.supervisor.specs.Model.Solve.{Solution, Solves}
-use Rattle.supervisor.specs.Laws.Solving.{layout-steps}
-use Rattle.supervisor.specs.Laws.Judging.{judges-many}
+use Rattle.solve.specs.Model.Solve.{Solution, Solves}
+use Rattle.solve.specs.Laws.Solving.{layout-steps}
+use Rattle.solve.specs.Laws.Judging.{judges-many}
 use Rattle.supervisor.specs.Laws.Written.{solved-lost}
-use Rattle.supervisor.specs.declared.solve.Solved.{Solved}
+use Rattle.solve.specs.declared.solving.Solved.{Solved}
 use Rattle.supervisor.proofs.Layouts.{inputs-low, outputs-low, few-inputs, few-outputs, layout-short, layout-written}
 use borrow.Author.Needs.{needs}
 use Rattle.supervisor.proofs.make.make_read.Statement.{statement}

@@ -7,7 +7,7 @@ use Rattle.sheet.specs.Meaning.Grounds.{verdictNumber}
 use Rattle.product.specs.Model.Numbered.{stateCount}
 use Rattle.supervisor.specs.Model.Table.{supervisorTable}
 use Rattle.supervisor.specs.Promises.Supervisor.{workOk}
-use Rattle.supervisor.specs.Laws.Judging.{answers-short, answers-refused, answers-judged}
+use Rattle.solve.specs.Laws.Judging.{answers-short, answers-refused, answers-judged}
 use Rattle.supervisor.specs.Laws.Written.{work-long, short-tuples, short-cells, short-dropped}
 use borrow.Author.Needs.{needs}
 use Rattle.supervisor.proofs.make.make_with.Statement.{statement}

@@ -4,7 +4,7 @@ use mathlib.Core.Bool.{Bool}
 use native.Mathlib.Omega.{arith}
 use lib.ListN.{length}
 use Rattle.records.specs.Meaning.Numbers.{zeros}
-use Rattle.supervisor.specs.Model.Making.{Answers}
+use Rattle.solve.specs.Model.Making.{Answers}
 use Rattle.guard.specs.Model.Table.{guardTableOf}
 use Rattle.guard.specs.Promises.Guard.{Work, guardStates, MakesGuard}
 use Rattle.guard.specs.Model.Lent.{lent}

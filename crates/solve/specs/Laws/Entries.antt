@@ -27,9 +27,9 @@ use Rattle.game.specs.Laws.Naming.{Names, dropped-named}
 use Rattle.game.specs.Laws.Reachable.{letter-low, letter-input, letter-output, input-low, output-low, reachable-closed}
 use Rattle.records.specs.Model.Cells.{brokenCell}
 use Rattle.rounds.specs.Model.Rounds.{Steps, cellAt, isIn, leadsIn, rounds, settled}
-use Rattle.supervisor.specs.Meaning.Allowed.Allowed.{Kept, Lost, Allowed}
-use Rattle.supervisor.specs.Model.Table.{cellsOf, droppedOf}
-use Rattle.supervisor.specs.Laws.Numbered.{goes, passes, leads-game, rounds-game}
+use Rattle.solve.specs.Meaning.Allowed.{Kept, Lost, Allowed}
+use Rattle.solve.specs.Model.Steps.{cellsOf, droppedOf}
+use Rattle.solve.specs.Laws.Numbered.{goes, passes, leads-game, rounds-game}
 
 -- a table with a place in it has rows that are not empty
 pub some-letter : (n L at : ℕ) → at < n * L → 0 < L

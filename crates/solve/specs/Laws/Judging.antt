@@ -28,34 +28,34 @@ use Rattle.sheet.specs.declared.layout.Verdict.the-variants as verdict
 use Rattle.sheet.specs.declared.layout.Reading.{Reading}
 use Rattle.product.specs.Model.Numbered.{stateCount}
 use Rattle.rounds.specs.Model.Rounds.{isIn}
-use Rattle.supervisor.specs.Meaning.Allowed.Allowed.{TooMany, IsSheet, Accepted}
-use Rattle.supervisor.specs.Model.Table.{droppedOf}
-use Rattle.supervisor.specs.Laws.Grounds.{too-many-iff, start-in, start-out}
-use Rattle.supervisor.specs.Model.Making.{sheetOf, tableNumber, makingNumber, Judges, Answers}
-use Rattle.supervisor.specs.Meaning.Made.{madeNumber, madeLength}
-use Rattle.supervisor.specs.Promises.Making.{Written, Unwritten, Makes}
-use Rattle.supervisor.specs.declared.make.Made.{Made}
-use Rattle.supervisor.specs.declared.make.Made.the-variants.{Table, Refused}
+use Rattle.solve.specs.Meaning.Allowed.{TooMany, IsSheet, Accepted}
+use Rattle.solve.specs.Model.Steps.{droppedOf}
+use Rattle.solve.specs.Laws.Grounds.{too-many-iff, start-in, start-out}
+use Rattle.solve.specs.Model.Making.{sheetOf, manyNumber, lostNumber, roomNumber, tableNumber, makingNumber, Judges, Answers}
+use Rattle.solve.specs.Meaning.Made.{madeNumber, madeLength}
+use Rattle.solve.specs.Promises.Making.{Written, Unwritten, Makes}
+use Rattle.solve.specs.declared.made.Made.{Made}
+use Rattle.solve.specs.declared.made.Made.the-variants.{Table, Refused}
 
 -- ---- the number of a sheet in bounds
 
 module _ (d : Decoded) (size room : ℕ) where
   -- 7, 8, 9 and none, each where it is due
   number-many : maxStates < stateCount d → tableNumber d size room ≡ 7
-  unfolding tableNumber
+  unfolding tableNumber manyNumber lostNumber roomNumber
   number-many h = rw (lt-ltb maxStates (stateCount d) h)
 
   module _ (fits : stateCount d ≤ maxStates) where
     number-lost : isIn (droppedOf d) 0 ≡ false → tableNumber d size room ≡ 8
-    unfolding tableNumber
+    unfolding tableNumber manyNumber lostNumber roomNumber
     number-lost e = rw (le-ltb maxStates (stateCount d) fits, e)
 
     number-short : isIn (droppedOf d) 0 ≡ true → room < size → tableNumber d size room ≡ 9
-    unfolding tableNumber
+    unfolding tableNumber manyNumber lostNumber roomNumber
     number-short e h = rw (le-ltb maxStates (stateCount d) fits, e, lt-leb size room h)
 
     number-none : isIn (droppedOf d) 0 ≡ true → size ≤ room → tableNumber d size room ≡ 0
-    unfolding tableNumber
+    unfolding tableNumber manyNumber lostNumber roomNumber
     number-none e h = rw (le-ltb maxStates (stateCount d) fits, e, le-leb size room h)
 
   -- there is no other number, and each says what it was given for

@@ -10,10 +10,10 @@ use Prim.Native.Nat.{ℕ, _≤_, _<_}
 use lib.ListN.{length, drop}
 use Rattle.sheet.specs.Meaning.Decoded.{Decoded}
 use Rattle.sheet.specs.Meaning.Refusals.{sheetNumber}
-use Rattle.supervisor.specs.Meaning.Allowed.Allowed.{TooMany, Unrealizable, IsSheet, Accepted}
-use Rattle.supervisor.specs.declared.make.Made.{Made}
-use Rattle.supervisor.specs.Meaning.Made.{madeNumber, madeLength, madeStates}
-use Rattle.supervisor.specs.Model.Making.{Answers}
+use Rattle.solve.specs.Meaning.Allowed.{TooMany, Unrealizable, IsSheet, Accepted}
+use Rattle.solve.specs.declared.made.Made.{Made}
+use Rattle.solve.specs.Meaning.Made.{madeNumber, madeLength, madeStates}
+use Rattle.solve.specs.Model.Making.{Answers}
 
 -- what was written: the table, then what the result held before, and its figures
 pub record Written (table : List ℕ) (states : ℕ) (before : List ℕ) (r : Made) (after : List ℕ) : Type 0 where

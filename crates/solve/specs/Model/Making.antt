@@ -14,9 +14,9 @@ use Rattle.sheet.specs.Model.Reader.{reading}
 use Rattle.sheet.specs.Meaning.Refusals.{sheetNumber, firstNumber}
 use Rattle.product.specs.Model.Numbered.{stateCount}
 use Rattle.rounds.specs.Model.Rounds.{isIn}
-use Rattle.supervisor.specs.Model.Table.{droppedOf}
-use Rattle.supervisor.specs.declared.make.Made.{Made}
-use Rattle.supervisor.specs.Meaning.Made.{madeNumber, madeLength, madeStates}
+use Rattle.solve.specs.Model.Steps.{droppedOf}
+use Rattle.solve.specs.declared.made.Made.{Made}
+use Rattle.solve.specs.Meaning.Made.{madeNumber, madeLength, madeStates}
 
 -- the sheet that bytes stand for, where they are one's
 unfoldable pub sheetOf : List ℕ → Decoded
@@ -24,10 +24,21 @@ sheetOf s = decoded s (reading s .sheet)
 
 -- ---- the number that is due
 
--- for a sheet in bounds, whose table has `size` bytes: 7, 8, then 9
+-- 7: there are too many product states
+unfoldable pub manyNumber : Decoded → ℕ
+manyNumber d = cond (ltb maxStates (stateCount d)) 7 0
+
+-- 8: the start is dropped
+unfoldable pub lostNumber : Decoded → ℕ
+lostNumber d = cond (isIn (droppedOf d) 0) 0 8
+
+-- 9: the result is shorter than the table
+unfoldable pub roomNumber : ℕ → ℕ → ℕ
+roomNumber size room = cond (leb size room) 0 9
+
+-- for a sheet in bounds, whose table has `size` bytes
 unfoldable pub tableNumber : Decoded → ℕ → ℕ → ℕ
-tableNumber d size room =
-    cond (ltb maxStates (stateCount d)) 7 (cond (isIn (droppedOf d) 0) (cond (leb size room) 0 9) 8)
+tableNumber d size room = firstNumber (manyNumber d) (firstNumber (lostNumber d) (roomNumber size room))
 
 -- 10, then the sheet's, then those of its table
 unfoldable pub makingNumber : (Decoded → List ℕ) → Bool → List ℕ → ℕ → ℕ

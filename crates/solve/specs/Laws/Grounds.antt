@@ -16,9 +16,9 @@ use Rattle.product.specs.Model.Numbered.{stateCount, numberOf}
 use Rattle.product.specs.Laws.Numbered.{some-state, first-state, state-number, too-many}
 use Rattle.game.specs.Meaning.Reachable.{begin}
 use Rattle.rounds.specs.Model.Rounds.{isIn}
-use Rattle.supervisor.specs.Meaning.Allowed.Allowed.{Kept, TooMany, Unrealizable}
-use Rattle.supervisor.specs.Model.Table.{droppedOf}
-use Rattle.supervisor.specs.Laws.Entries.{in-iff, out-iff}
+use Rattle.solve.specs.Meaning.Allowed.{Kept, TooMany, Unrealizable}
+use Rattle.solve.specs.Model.Steps.{droppedOf}
+use Rattle.solve.specs.Laws.Entries.{in-iff, out-iff}
 
 -- what stands past the end is not read
 getD-inside {ℓ} : {A : Type ℓ} (l : List A) (j : ℕ) (a b : A) → j < length l → getD l j a ≡ getD l j b

@@ -1,0 +1,5 @@
+-- Definitions that go the way the code goes.
+pub mod Steps
+pub mod Solve
+pub mod Making
+pub mod Opening
