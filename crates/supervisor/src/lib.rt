@@ -1,3 +1,2 @@
 // The maximally permissive supervisor of a sheet, as a table.
 pub mod make;
-pub mod solve;

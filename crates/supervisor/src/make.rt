@@ -1,6 +1,4 @@
 // The maker of supervisor tables.
-use crate::solve::Solved;
-use crate::solve::solve;
 use masks::put_head;
 use masks::put_rows;
 use masks::table_length;
@@ -8,25 +6,19 @@ use records::clear::clear8;
 use records::clear::clear16;
 use records::numbers::pow2;
 use sheet::layout::Refusal;
-use sheet::layout::Sheet;
 use sheet::layout::Verdict;
-use sheet::reader::read;
+use solve::made::Made;
+use solve::opening::open_sheet;
 ghost use mathlib.Core.Path.{_≡_};
 ghost use mathlib.Core.Bool.{true};
 ghost use Prim.Native.Nat.{_≤_};
 ghost use lib.ListN.{length};
+ghost use Rattle.records.specs.Meaning.Limits.{maxStates};
 ghost use Rattle.records.specs.Meaning.Numbers.{zeros};
-ghost use Rattle.sheet.specs.Model.Where.{Fits, decoded};
-ghost use Rattle.product.specs.Model.Numbered.{stateCount};
+ghost use Rattle.product.specs.Model.Numbered.{stateCount, tuplesLength, cellsLength};
+ghost use Rattle.solve.specs.Model.Making.{Answers};
 ghost use Rattle.supervisor.specs.Model.Table.{supervisorTable};
-ghost use Rattle.solve.specs.Model.Making.{Answers, Judges};
 ghost use Rattle.supervisor.specs.Promises.Supervisor.{workOk, MakesSupervisor};
-
-// What a maker answers: the bytes of the table and the states that it has, or the ground of the refusal.
-pub enum Made {
-    Table { length: usize, states: usize },
-    Refused(Refusal),
-}
 
 // The maker: the work memory that it needs.
 pub struct Supervisor {
@@ -56,7 +48,8 @@ impl Supervisor {
         ensures cells { λ _. ⌜ now (cells .exit) ≡ zeros (length (now (cells .entry))) ⌝ }
         ensures dropped { λ _. ⌜ now (dropped .exit) ≡ zeros (length (now (dropped .entry))) ⌝ }
     {
-        let made = make_with(sheet, result, tuples, cells, dropped);
+        let ok = work_ok(tuples.len(), cells.len(), dropped.len());
+        let made = make_with(ok, sheet, result, tuples, cells, dropped);
         clear8(tuples);
         clear16(cells);
         clear16(dropped);
@@ -64,59 +57,39 @@ impl Supervisor {
     }
 }
 
-// The same, with the work memory left as it falls.
+// Whether every slice of work memory is long enough.
+fn work_ok(tuples: usize, cells: usize, dropped: usize) -> bool
+    ensures { λ r. ⌜ r ≡ workOk tuples cells dropped ⌝ }
+{
+    if tuples < Supervisor::TUPLES {
+        return false;
+    }
+    if cells < Supervisor::CELLS {
+        return false;
+    }
+    Supervisor::DROPPED <= dropped
+}
+
+// The opening's refusals, then 9, and the result is written only then. The work memory is left as it falls; `ok` says that it is long
+// enough.
 fn make_with(
-    sheet: &[u8],
+    ok: bool,
+    s: &[u8],
     result: &mut [u8],
     tuples: &mut [u8],
     cells: &mut [u16],
     dropped: &mut [u16],
 ) -> Made
-    ensures { λ r. ⌜ Answers supervisorTable stateCount (workOk (length (now (tuples .entry))) (length (now (cells .entry))) (length (now (dropped .entry)))) (now (sheet .entry)) (now (result .entry)) r (now (result .exit)) ⌝ }
+    requires { ⌜ (ok ≡ true → (tuplesLength ≤ length (now tuples)) × ((cellsLength ≤ length (now cells)) × (maxStates ≤ length (now dropped)))) ⌝ }
+    ensures { λ r. ⌜ Answers supervisorTable stateCount ok (now (s .entry)) (now (result .entry)) r (now (result .exit)) ⌝ }
 {
-    if tuples.len() < Supervisor::TUPLES {
-        return Made::Refused(Refusal::ShortWork);
-    }
-    if cells.len() < Supervisor::CELLS {
-        return Made::Refused(Refusal::ShortWork);
-    }
-    if dropped.len() < Supervisor::DROPPED {
-        return Made::Refused(Refusal::ShortWork);
-    }
-    let reading = read(sheet);
-    let verdict = reading.verdict;
+    let opening = open_sheet(ok, s, tuples, cells, dropped);
+    let verdict = opening.verdict;
     match verdict {
         Verdict::Refused(ground) => Made::Refused(ground),
         Verdict::Accepted => {
-            let layout = reading.sheet;
-            make_read(sheet, layout, result, tuples, cells, dropped)
-        }
-    }
-}
-
-// A sheet in bounds: 7, 8, then 9, and the result is written only then.
-fn make_read(
-    s: &[u8],
-    sheet: Sheet,
-    result: &mut [u8],
-    tuples: &mut [u8],
-    cells: &mut [u16],
-    dropped: &mut [u16],
-) -> Made
-    requires { ⌜ Fits (now s) sheet ⌝ }
-    requires { ⌜ (3072 ≤ length (now tuples)) × ((16384 ≤ length (now cells)) × (256 ≤ length (now dropped))) ⌝ }
-    ensures { λ r. ⌜ Judges supervisorTable stateCount (decoded (now (s .entry)) sheet) (now (result .entry)) r (now (result .exit)) ⌝ }
-{
-    match solve(s, sheet, tuples, cells, dropped) {
-        Solved::TooMany => Made::Refused(Refusal::TooManyStates),
-        Solved::States {
-            states,
-            kept: _,
-            start,
-        } => {
-            if !start {
-                return Made::Refused(Refusal::Unrealizable);
-            }
+            let sheet = opening.sheet;
+            let states = opening.states;
             let inputs = pow2(sheet.inputs);
             let length = table_length(inputs, states);
             if result.len() < length {

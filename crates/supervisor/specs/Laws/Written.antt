@@ -8,8 +8,8 @@ use native.Mathlib.Omega.{arith}
 use lib.Dec.{leb}
 use lib.ListN.{length}
 use lib.Seq.{sets}
-use borrow.Author.Tests.{le-leb, lt-leb}
-use Rattle.records.specs.Laws.Tests.{by-test}
+use borrow.Author.Tests.{leb-true}
+use Rattle.records.specs.Laws.Tests.{and-left, and-right}
 use Rattle.records.specs.Meaning.Limits.{maxStates}
 use Rattle.records.specs.Meaning.Lists.{cat}
 use Rattle.records.specs.Laws.Lists.{sets-append}
@@ -36,33 +36,20 @@ use Rattle.solve.specs.Laws.Solving.{layout-inputs, layout-outputs}
 use Rattle.supervisor.specs.Laws.Solved.{layout-head, solution-table}
 use Rattle.supervisor.specs.Laws.Demand.{means}
 use Rattle.supervisor.specs.Laws.Only.{only-table}
-use Rattle.solve.specs.Laws.Judging.{Only, judges-lost, judges-short, judges-made, makes, accepted-fits, written-front}
+use Rattle.solve.specs.Laws.Judging.{Only, judges-short, judges-made, makes, accepted-fits, written-front}
 use Rattle.solve.specs.declared.made.Made.{Made}
 use Rattle.solve.specs.declared.made.Made.the-variants.{Table, Refused}
 
 -- ---- work memory
 
--- every slice is long enough
-pub work-long : (tuples cells dropped : ℕ) → tuplesLength ≤ tuples → cellsLength ≤ cells → droppedLength ≤ dropped
-    → workOk tuples cells dropped ≡ true
+-- each slice is as long as its constant
+pub work-room : (tuples cells dropped : ℕ) → workOk tuples cells dropped ≡ true
+    → (tuplesLength ≤ tuples) × ((cellsLength ≤ cells) × (droppedLength ≤ dropped))
 unfolding workOk
-work-long tuples cells dropped h k l =
-    rw (le-leb tuplesLength tuples h, le-leb cellsLength cells k, le-leb droppedLength dropped l)
-
--- one of the slices is too short
-pub short-tuples : (tuples cells dropped : ℕ) → tuples < tuplesLength → workOk tuples cells dropped ≡ false
-unfolding workOk
-short-tuples tuples cells dropped h = rw (lt-leb tuplesLength tuples h)
-
-pub short-cells : (tuples cells dropped : ℕ) → cells < cellsLength → workOk tuples cells dropped ≡ false
-unfolding workOk
-short-cells tuples cells dropped h = rw (lt-leb cellsLength cells h) (by-test (leb tuplesLength tuples) (λ y. rw y) (λ y. rw y))
-
-pub short-dropped : (tuples cells dropped : ℕ) → dropped < droppedLength → workOk tuples cells dropped ≡ false
-unfolding workOk
-short-dropped tuples cells dropped h =
-    rw (lt-leb droppedLength dropped h)
-    (by-test (leb tuplesLength tuples) (λ y. by-test (leb cellsLength cells) (λ z. rw (y, z)) (λ z. rw (y, z))) (λ y. rw y))
+work-room tuples cells dropped e = (
+  leb-true tuplesLength tuples (and-left _ _ e),
+  (leb-true cellsLength cells (search (and-left, and-right)), leb-true droppedLength dropped (search (and-left, and-right))),
+)
 
 -- ---- the returns, once the sheet is solved
 
@@ -77,10 +64,6 @@ module _
     -- the table is as long as the code says
     size-is : length (supervisorTable d) ≡ tableLength (inputsOf d) n
     size-is = ap length (sym (solution-table solution)) ∙ length-table d n cells dropped
-
-    -- the start is not kept
-    pub solved-lost : start ≡ false → Judges supervisorTable stateCount d before (Refused ground.Unrealizable) before
-    solved-lost e = judges-lost supervisorTable stateCount d before few (sym (solution .start-kept) ∙ e)
 
     -- the result is too short
     pub solved-short : start ≡ true → length before < tableLength (inputsOf d) n

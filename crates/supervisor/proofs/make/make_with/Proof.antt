@@ -1,44 +1,66 @@
--- `supervisor::make::make_with`: 10 is judged, then the reader's refusals, then those of the table. Assumes nothing.
-use mathlib.Core.Path.{_≡_, ap}
-use mathlib.Core.Bool.{true}
+-- `supervisor::make::make_with`: the opening's refusals, then 9, and then the table is written. Assumes nothing.
+use mathlib.Core.Path.{refl, subst}
+use Prim.Native.Nat.{_≤_}
 use native.Mathlib.Omega.{arith}
 use lib.ListN.{length}
-use Rattle.sheet.specs.Meaning.Grounds.{verdictNumber}
-use Rattle.product.specs.Model.Numbered.{stateCount}
+use Rattle.records.specs.Meaning.Limits.{maxStates}
+use Rattle.sheet.specs.declared.layout.Verdict.{Verdict}
+use Rattle.product.specs.Model.Numbered.{stateCount, cellsLength}
+use Rattle.masks.specs.Model.Rows.{tableLength}
+use Rattle.solve.specs.Model.Opening.{Opened, Opens}
+use Rattle.solve.specs.Laws.Solving.{inputs-low, outputs-low, few-inputs, few-outputs, layout-steps}
 use Rattle.supervisor.specs.Model.Table.{supervisorTable}
-use Rattle.supervisor.specs.Promises.Supervisor.{workOk}
-use Rattle.solve.specs.Laws.Judging.{answers-short, answers-refused, answers-judged}
-use Rattle.supervisor.specs.Laws.Written.{work-long, short-tuples, short-cells, short-dropped}
+use Rattle.supervisor.proofs.Layouts.{layout-short, layout-written}
 use borrow.Author.Needs.{needs}
 use Rattle.supervisor.proofs.make.make_with.Statement.{statement}
 use Rattle.supervisor.proofs.make.make_with.Tie as tie
 
 -- the places that the needs look back to
-abbrev entry : tie.Else1 → tie.Start
-entry c = c .before .before .before .before .before .before
+abbrev entry : tie.After-open-sheet → tie.Start
+entry c = c .before .before .before .before .before .before .before .before .before
 
-abbrev start : tie.After-read → tie.Start
-start c = entry (c .before .before .before)
+abbrev opened : tie.After-enum-told → tie.After-open-sheet
+opened c = c .before .before .before .before .before .before .before .before
 
-abbrev accepted : tie.After-layout → tie.After-read
-accepted c = c .before .before .before
+abbrev told : tie.After-pow2 → tie.After-enum-told
+told c = c .before .before
 
--- the work memory is long enough
-long : (c : tie.Else3) → let a = entry (c .before .before) .args in
-    workOk (length (a .tuples .now)) (length (a .cells .now)) (length (a .dropped .now)) ≡ true
-long c = work-long _ _ _ (omega arith) (omega arith) (omega arith)
+abbrev refused : tie.After-known-told → tie.After-open-sheet
+refused c = c .before .before .before .before .before .before .before .before .before
 
-returns : tie.Need-returns
-returns c = answers-short supervisorTable stateCount _ _ _ (short-tuples _ _ _ (omega arith))
+abbrev room : tie.After-put-head → tie.Else1
+room c = c .before .before
 
-returns-2 : tie.Need-returns-2
-returns-2 c = answers-short supervisorTable stateCount _ _ _ (short-cells _ _ _ (omega arith))
+abbrev headed : tie.After-pow22 → tie.After-put-head
+headed c = c .before .before .before .before .before .before
 
-returns-3 : tie.Need-returns-3
-returns-3 c = answers-short supervisorTable stateCount _ _ _ (short-dropped _ _ _ (omega arith))
+-- what the opening says of a verdict
+abbrev Says : tie.After-open-sheet → Verdict → Type 0
+Says c v =
+    let a = entry c .args in
+    let r = c .open-sheet .result in
+    let after = c .open-sheet .last .1 .1 in
+    Opens (a .ok) (a .s .now) v (r .sheet) (r .states) (r .kept) (after .0) (after .1 .0) (after .1 .1 .0)
 
-read-requires : tie.Need-read-requires
-read-requires c κs = search needs
+-- and where it accepts
+ready : (c : tie.After-enum-told) →
+    let a = entry (opened c) .args in
+    let r = opened c .open-sheet .result in
+    let after = opened c .open-sheet .last .1 .1 in
+    Opened (a .ok) (a .s .now) (r .sheet) (r .states) (r .kept) (after .0) (after .1 .0) (after .1 .1 .0)
+ready c = subst (Says (opened c)) (c .enum-told .given .1) (opened c .open-sheet .ensures .0)
+
+-- cells and rounds still have room
+rooms : (c : tie.After-enum-told) →
+    let after = opened c .open-sheet .last .1 .1 in
+    (cellsLength ≤ length (after .1 .0)) × (maxStates ≤ length (after .1 .1 .0))
+rooms c =
+    let w = entry (opened c) .pre (ready c .long) in
+    let kept = opened c .open-sheet .kept .1 .1 in
+    (omega (arith, w .1 .0, kept .1 .0), omega (arith, w .1 .1, kept .1 .1 .0))
+
+open-sheet-requires : tie.Need-open-sheet-requires
+open-sheet-requires c κs = search needs
 
 enum-known-verdict : tie.Need-enum-known-verdict
 enum-known-verdict c = search needs
@@ -46,13 +68,11 @@ enum-known-verdict c = search needs
 enum-told : tie.Need-enum-told
 enum-told c = search needs
 
-make-read-requires : tie.Need-make-read-requires
-make-read-requires c κs = let read = accepted (c .before .before .before .before) in
-    (read .read .ensures .fits (ap verdictNumber (c .before .before .before .before .before .enum-told .given .1)), (omega arith, (omega arith, omega arith)))
+pow2-requires : tie.Need-pow2-requires
+pow2-requires c κs = omega (arith, inputs-low (ready (c .before) .fits))
 
-returns-4 : tie.Need-returns-4
-returns-4 c = let read = c .before .before .before in
-    answers-refused supervisorTable stateCount _ _ _ (long (read .before)) (read .read .result) (read .read .ensures) _ (c .before .verdict .given .1)
+table-length-requires : tie.Need-table-length-requires
+table-length-requires c κs = let r = ready (told c) in (few-inputs (r .fits) (c .pow2 .ensures), r .solution .numbering .most)
 
 same-length : tie.Need-same-length
 same-length c = search needs
@@ -63,29 +83,95 @@ same-length-2 c = search needs
 same-length-3 : tie.Need-same-length-3
 same-length-3 c = search needs
 
+returns : tie.Need-returns
+returns c = let size = c .before in
+    let r = ready (told (size .before)) in
+    r .answers supervisorTable stateCount
+    (layout-short (r .fits) (r .solution) (entry (opened (told (size .before))) .args .result .now) _ (size .before .pow2 .ensures) refl
+    (size .table-length .ensures) (omega arith))
+
+cast-put-head : tie.Need-cast-put-head
+cast-put-head c = omega (arith, ready (told (c .before .before .before)) .solution .numbering .most)
+
+put-head-requires : tie.Need-put-head-requires
+unfolding tableLength
+put-head-requires c κs = omega (arith, c .before .before .table-length .ensures)
+
+pow2-requires-2 : tie.Need-pow2-requires-2
+pow2-requires-2 c κs =
+    let at = room (c .before .before .before .before .before) in omega (arith, outputs-low (ready (told (at .before .before)) .fits))
+
+put-rows-requires : tie.Need-put-rows-requires
+put-rows-requires c κs =
+    let at = room (headed c) in
+    let r = ready (told (at .before .before)) in
+    let numbering = r .solution .numbering in
+    let long = rooms (told (at .before .before)) in
+    let inputs = at .before .before .pow2 .ensures in
+    let outputs = c .pow22 .ensures in (
+      layout-steps (r .fits) numbering _ _ inputs outputs (long .0),
+      (
+        omega (arith, numbering .most, long .1),
+        (numbering .most, (few-inputs (r .fits) inputs, (few-outputs (r .fits) outputs, omega (arith, at .before .table-length .ensures)))),
+      ),
+    )
+
 same-length-4 : tie.Need-same-length-4
 same-length-4 c = search needs
 
-returns-5 : tie.Need-returns-5
-returns-5 c = let made = c .before .before .before .before .before .before .before .before in
-    let layout = made .before .before .before .before .before in
-    let read = accepted layout in
-    answers-judged supervisorTable stateCount _ _ _ (long (read .before)) (read .read .result) (read .read .ensures) (layout .before .enum-told .given .1) _ _ (made .make-read .ensures)
+same-length-5 : tie.Need-same-length-5
+same-length-5 c = search needs
+
+same-length-6 : tie.Need-same-length-6
+same-length-6 c = search needs
+
+returns-2 : tie.Need-returns-2
+returns-2 c = let at = refused c in
+    subst (Says at) (c .before .verdict .given .1) (at .open-sheet .ensures .0) supervisorTable stateCount (entry at .args .result .now)
+
+same-length-7 : tie.Need-same-length-7
+same-length-7 c = search needs
+
+same-length-8 : tie.Need-same-length-8
+same-length-8 c = search needs
+
+same-length-9 : tie.Need-same-length-9
+same-length-9 c = search needs
+
+same-length-10 : tie.Need-same-length-10
+same-length-10 c = search needs
+
+returns-3 : tie.Need-returns-3
+returns-3 c = let wrote = c .before .before in
+    let at = room (headed (wrote .before)) in
+    let r = ready (told (at .before .before)) in
+    r .answers supervisorTable stateCount
+    (layout-written (r .fits) (r .solution) (entry (opened (told (at .before .before))) .args .result .now) _ (at .before .before .pow2 .ensures) refl
+    (at .before .table-length .ensures) (omega arith) _ (wrote .before .pow22 .ensures) (headed (wrote .before) .put-head .ensures) (wrote .put-rows .ensures))
 
 pub make-with-spec : {M : Type 1} → statement M
 make-with-spec =
     tie.close
     (tie.spec
-    returns
-    returns-2
-    returns-3
-    read-requires
+    open-sheet-requires
     enum-known-verdict
     enum-told
-    make-read-requires
-    returns-4
+    pow2-requires
+    table-length-requires
     same-length
     same-length-2
     same-length-3
+    returns
+    cast-put-head
+    put-head-requires
+    pow2-requires-2
+    put-rows-requires
     same-length-4
-    returns-5)
+    same-length-5
+    same-length-6
+    returns-2
+    same-length-7
+    same-length-8
+    same-length-9
+    same-length-10
+    returns-3)

@@ -1,8 +1,14 @@
 -- `supervisor::make::Supervisor::make`: the whole promise from the answer by the model, and each slice cleared. Assumes nothing.
-use mathlib.Core.Path.{ap, _∙_}
+use mathlib.Core.Path.{sym, ap, subst, _∙_}
+use mathlib.Core.Bool.{Bool}
 use native.Mathlib.Omega.{arith}
+use lib.ListN.{length}
 use Rattle.records.specs.Meaning.Numbers.{zeros}
-use Rattle.supervisor.specs.Laws.Written.{supervisor-promise}
+use Rattle.product.specs.Model.Numbered.{stateCount}
+use Rattle.solve.specs.Model.Making.{Answers}
+use Rattle.supervisor.specs.Model.Table.{supervisorTable}
+use Rattle.supervisor.specs.Promises.Supervisor.{MakesSupervisor}
+use Rattle.supervisor.specs.Laws.Written.{work-room, supervisor-promise}
 use borrow.Author.Needs.{needs}
 use Rattle.supervisor.proofs.make.Supervisor.make.Statement.{statement}
 use Rattle.supervisor.proofs.make.Supervisor.make.Tie as tie
@@ -17,11 +23,31 @@ cleared-tuples c = c .before .before .before .before
 abbrev made : tie.After-clear8 → tie.After-make-with
 made c = c .before .before .before .before .before .before .before .before .before .before
 
-abbrev entered : tie.After-make-with → tie.After-shared-slice-known
-entered c = c .before .before .before .before .before .before .before .before .before
+abbrev tested : tie.After-make-with → tie.After-work-ok
+tested c = c .before .before .before .before .before
+
+abbrev entered : tie.After-work-ok → tie.After-shared-slice-known
+entered c = c .before .before .before .before .before
+
+-- the whole promise
+promise : (c : tie.After-make-with) →
+    let a = entered (tested c) .before .args in
+    MakesSupervisor (a .sheet .now) (a .result .now) (length (a .tuples .now)) (length (a .cells .now)) (length (a .dropped .now))
+    (c .make-with .result) (c .make-with .last .1 .1 .0)
+promise c =
+    let a = entered (tested c) .before .args in
+    supervisor-promise (length (a .tuples .now)) (length (a .cells .now)) (length (a .dropped .now))
+    (λ k. omega (arith, entered (tested c) .shared-slice-known .given k))
+    (subst (λ (b : Bool). Answers supervisorTable stateCount b (a .sheet .now) (a .result .now) (c .make-with .result) (c .make-with .last .1 .1 .0))
+    (tested c .work-ok .ensures) (c .make-with .ensures))
+
+work-ok-requires : tie.Need-work-ok-requires
+work-ok-requires c κs = tt
 
 make-with-requires : tie.Need-make-with-requires
-make-with-requires c κs = search needs
+make-with-requires c κs = let at = c .before .before .before .before in
+    let a = entered at .before .args in
+    λ e. work-room (length (a .tuples .now)) (length (a .cells .now)) (length (a .dropped .now)) (sym (at .work-ok .ensures) ∙ e)
 
 clear8-requires : tie.Need-clear8-requires
 clear8-requires c κs = search needs
@@ -50,12 +76,12 @@ returns c =
     let cells = cleared-cells dropped in
     let tuples = cleared-tuples cells in
     let done = made tuples in (
-      supervisor-promise _ _ _ (λ k. omega (arith, entered done .shared-slice-known .given k)) (done .make-with .ensures),
+      promise done,
       (
-        tuples .clear8 .ensures ∙ ap zeros (done .make-with .kept .1 .1 .0),
+        tuples .clear8 .ensures ∙ ap zeros (done .make-with .kept .1 .1 .1 .0),
         (
-          cells .clear16 .ensures ∙ ap zeros (done .make-with .kept .1 .1 .1 .0),
-          dropped .clear162 .ensures ∙ ap zeros (done .make-with .kept .1 .1 .1 .1 .0),
+          cells .clear16 .ensures ∙ ap zeros (done .make-with .kept .1 .1 .1 .1 .0),
+          dropped .clear162 .ensures ∙ ap zeros (done .make-with .kept .1 .1 .1 .1 .1 .0),
         ),
       ),
     )
@@ -64,6 +90,7 @@ pub make-spec : {M : Type 1} → statement M
 make-spec =
     tie.close
     (tie.spec
+    work-ok-requires
     make-with-requires
     clear8-requires
     clear16-requires

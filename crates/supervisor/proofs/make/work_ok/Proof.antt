@@ -1,0 +1,25 @@
+-- `supervisor::make::work_ok`: the tests in the definition's order. Assumes nothing.
+use Rattle.records.specs.Laws.Tests.{cases}
+use Rattle.supervisor.specs.Promises.Supervisor.{workOk}
+use Rattle.supervisor.proofs.make.work_ok.Statement.{statement}
+use Rattle.supervisor.proofs.make.work_ok.Tie as tie
+
+returns : tie.Need-returns
+unfolding workOk
+returns c = search cases
+
+returns-2 : tie.Need-returns-2
+unfolding workOk
+returns-2 c = search cases
+
+returns-3 : tie.Need-returns-3
+unfolding workOk
+returns-3 c = search cases
+
+pub work-ok-spec : {M : Type 1} → statement M
+work-ok-spec =
+    tie.close
+    (tie.spec
+    returns
+    returns-2
+    returns-3)
