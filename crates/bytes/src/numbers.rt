@@ -2,7 +2,7 @@
 use board::answers::Change;
 use board::answers::Load;
 use board::answers::Step;
-use supervisor::make::Made;
+use solve::made::Made;
 ghost use mathlib.Core.Path.{_≡_};
 ghost use Prim.Native.Nat.{_≤_};
 ghost use lib.ListN.{length};

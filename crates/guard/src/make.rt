@@ -1,9 +1,9 @@
 // The maker of guard tables.
-use judge::make::make_with;
+use plan::making::make_with;
 use records::clear::clear8;
 use records::clear::clear16;
 use records::clear::clear64;
-use supervisor::make::Made;
+use solve::made::Made;
 ghost use mathlib.Core.Path.{_≡_};
 ghost use lib.ListN.{length};
 ghost use Rattle.records.specs.Meaning.Numbers.{zeros};

@@ -4,7 +4,7 @@ mod makers;
 
 use makers::counters_guard;
 use makers::counters_supervisor;
-use supervisor::make::Made;
+use solve::made::Made;
 ghost use Prim.Native.Nat.{_≤_};
 
 // The answer of a maker: the states of its table, or the number of the refusal.

@@ -1,7 +1,7 @@
 // The makers, on sheets of two counters and with work memory of their own.
 use crate::counters::put_sheet;
 use guard::make::Guard;
-use supervisor::make::Made;
+use solve::made::Made;
 use supervisor::make::Supervisor;
 ghost use Prim.Native.Nat.{_≤_};
 ghost use Rattle.product.specs.Model.Numbered.{stateCount};

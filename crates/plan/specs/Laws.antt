@@ -5,3 +5,4 @@ pub mod Agree
 pub mod Best
 pub mod Reaching
 pub mod Solved
+pub mod Judged

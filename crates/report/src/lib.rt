@@ -1,5 +1,5 @@
 // The listing of a guard table, and what is said where there is none, as text.
-use supervisor::make::Made;
+use solve::made::Made;
 use tables::is_loadable;
 use text::lengths::listing_length;
 use text::lengths::number_length;

@@ -28,7 +28,7 @@ use Rattle.values.specs.Laws.Numbered.{eqb-sound, eqb-self}
 use Rattle.plan.specs.Laws.Best.{choice-is}
 use Rattle.plan.specs.Model.Playing.{Inside}
 use Rattle.plan.specs.Laws.Reaching.{Winning, inside-winning, follows-lands, Met, met-inside, guard-inside, guard-fits}
-use Rattle.judge.specs.Laws.Judged.{length-over}
+use Rattle.plan.specs.Laws.Judged.{length-over}
 use Rattle.guard.specs.Meaning.Guard.{Move, Chosen, begin, onward, MoveBy, GuardStates}
 use Rattle.guard.specs.Model.Table.{gameOf, choicesOf, guardOf, guardCount, outputOf, nextOf, guardOver}
 use Rattle.guard.specs.Promises.Guard.{Rows}

@@ -16,15 +16,14 @@ use Rattle.sheet.specs.Model.Where.{Fits, decoded}
 use Rattle.sheet.specs.declared.layout.Sheet.{Sheet}
 use Rattle.product.specs.Model.Range.{InRange}
 use Rattle.product.specs.Meaning.Step.{softReward, weightOf}
-use Rattle.product.specs.Meaning.States.{Reached}
 use Rattle.product.specs.Model.States.{tupleAt}
-use Rattle.product.specs.Laws.Range.{first-in-range, advance-in-range}
+use Rattle.product.specs.Laws.Tuples.{reached-in-range}
 use Rattle.product.specs.Model.Numbered.{stateOf}
 use Rattle.product.specs.Laws.Numbered.{some-state, state-reached}
-use Rattle.game.specs.Meaning.Reachable.{begin, onward}
 use Rattle.rounds.specs.Model.Rounds.{isIn}
 use Rattle.rounds.specs.Laws.Agree.{in-agree}
 use Rattle.solve.specs.Model.Steps.{droppedOf}
+use Rattle.solve.specs.Model.Solve.{Solution}
 use Rattle.solve.specs.Laws.Solving.{inputs-most, outputs-most, letters-most, layout-inputs, layout-outputs}
 use Rattle.values.specs.Model.Values.{Game, Sized, valueRow}
 use Rattle.values.specs.Model.Sizes.{Valued}
@@ -45,14 +44,6 @@ use Rattle.plan.specs.Model.Planned.{Playable, Planned}
 -- ---- a layout's numbers
 
 module _ {s : List ℕ} {h : Sheet} (fits : Fits s h) where
-  pub inputs-low : h .inputs ≤ 4
-  unfolding decoded
-  inputs-low = omega (arith, fits .inputs, fits .ok .head .inputs)
-
-  pub outputs-low : h .outputs ≤ 3
-  unfolding decoded
-  outputs-low = fits .ok .head .outputs-most
-
   pub lines-are : h .inputs ≡ inputLines (decoded s h)
   unfolding decoded
   lines-are = fits .inputs
@@ -61,11 +52,12 @@ module _ {s : List ℕ} {h : Sheet} (fits : Fits s h) where
   unfolding decoded
   horizon-in-bounds = sheet-horizon (decoded s h) (fits .ok .horizon)
 
--- ---- the tuples of product states are in range
+-- a solved sheet whose start is kept can be planned for
+pub playable : {d : Decoded} {n kept : ℕ} {tuples cells dropped : List ℕ} → Solution d n kept true tuples cells dropped
+    → Playable d n tuples cells dropped
+playable {kept = kept} solution = record { kept = kept; solution = solution }
 
-reached-in-range : (d : Decoded) → SheetOk d → (t : List ℕ) → Reached d t → InRange d t
-reached-in-range d ok t begin = first-in-range d ok
-reached-in-range d ok t (onward {s = u} i o r hi ho e) = advance-in-range d ok u i o (reached-in-range d ok u r) hi ho
+-- ---- the tuples of product states are in range
 
 pub tuples-in-range : {d : Decoded} → SheetOk d → {n : ℕ} {tuples cells dropped : List ℕ} → Playable d n tuples cells dropped
     → (k : ℕ) → k < n → InRange d (tupleAt tuples k)

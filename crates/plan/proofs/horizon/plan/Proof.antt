@@ -5,7 +5,8 @@ use native.Mathlib.Omega.{arith}
 use lib.ListN.{length}
 use Rattle.values.specs.Model.Values.{Sized}
 use Rattle.values.specs.Model.Sizes.{gameOf}
-use Rattle.plan.specs.Laws.Planned.{outputs-low, tuples-in-range, counts-low, choices-room, plan-words, plan-sized, plan-valued, plan-following, plan-made}
+use Rattle.solve.specs.Laws.Solving.{outputs-low}
+use Rattle.plan.specs.Laws.Planned.{tuples-in-range, counts-low, choices-room, plan-words, plan-sized, plan-valued, plan-following, plan-made}
 use borrow.Author.Needs.{needs}
 use Rattle.plan.proofs.horizon.plan.Statement.{statement}
 use Rattle.plan.proofs.horizon.plan.Tie as tie

@@ -1,23 +1,25 @@
--- `judge::make::make_with`: the first judgements' refusals, then 9, and then the table is written. Assumes nothing.
+-- `plan::making::make_with`: the opening's refusals, then 9, and then the table is written. Assumes nothing.
 use mathlib.Core.Path.{subst}
 use Prim.Native.Nat.{_≤_}
 use native.Mathlib.Omega.{arith}
 use lib.ListN.{length}
 use Rattle.sheet.specs.declared.layout.Verdict.{Verdict}
 use Rattle.rows.specs.Laws.Entered.{count-most}
+use Rattle.plan.specs.Model.Table.{guardTableOf, statesOf}
 use Rattle.plan.specs.Model.Planned.{Room}
-use Rattle.plan.specs.Laws.Planned.{inputs-low, outputs-low, horizon-in-bounds}
-use Rattle.solve.specs.Model.Opening.{Ready, Opens}
-use Rattle.judge.specs.Laws.Judged.{layout-short, layout-written}
+use Rattle.plan.specs.Laws.Planned.{playable, horizon-in-bounds}
+use Rattle.solve.specs.Laws.Solving.{inputs-low, outputs-low}
+use Rattle.solve.specs.Model.Opening.{Opened, Opens}
+use Rattle.plan.specs.Laws.Judged.{layout-short, layout-written}
 use borrow.Author.Needs.{needs}
-use Rattle.judge.proofs.make.make_with.Statement.{statement}
-use Rattle.judge.proofs.make.make_with.Tie as tie
+use Rattle.plan.proofs.making.make_with.Statement.{statement}
+use Rattle.plan.proofs.making.make_with.Tie as tie
 
 -- the places that the needs look back to
-abbrev entry : tie.After-judge-first → tie.Start
+abbrev entry : tie.After-open-sheet → tie.Start
 entry c = c .before .before .before .before .before .before .before .before .before .before .before .before .before .before .before .before
 
-abbrev judged : tie.After-enum-told → tie.After-judge-first
+abbrev judged : tie.After-enum-told → tie.After-open-sheet
 judged c = c .before .before .before .before .before .before .before .before
 
 abbrev told : tie.After-pow22 → tie.After-enum-told
@@ -29,7 +31,7 @@ counted c = c .before .before .before .before .before .before .before .before .b
 abbrev planned : tie.After-table-length → tie.After-plan
 planned c = c .before .before .before .before .before .before .before .before .before .before .before .before .before .before .before
 
-abbrev refused : tie.After-known-told → tie.After-judge-first
+abbrev refused : tie.After-known-told → tie.After-open-sheet
 refused c = c .before .before .before .before .before .before .before .before .before
 
 abbrev wrote : tie.After-slice-known22 → tie.After-write
@@ -41,33 +43,33 @@ room c = c .before .before .before .before .before
 abbrev fit : tie.After-slice-known22 → tie.Else1
 fit c = room (wrote c .before)
 
-abbrev first : tie.After-plan → tie.After-judge-first
+abbrev first : tie.After-plan → tie.After-open-sheet
 first c = judged (told (counted c))
 
--- what the first judgements say of a verdict
-abbrev Says : tie.After-judge-first → Verdict → Type 0
+-- what the opening says of a verdict
+abbrev Says : tie.After-open-sheet → Verdict → Type 0
 Says c v =
     let a = entry c .args in
-    let r = c .judge-first .result in
-    let after = c .judge-first .last .1 .1 in
-    Opens (a .ok) (a .s .now) v (r .sheet) (r .states) (after .0) (after .1 .0) (after .1 .1 .0)
+    let r = c .open-sheet .result in
+    let after = c .open-sheet .last .1 .1 in
+    Opens (a .ok) (a .s .now) v (r .sheet) (r .states) (r .kept) (after .0) (after .1 .0) (after .1 .1 .0)
 
--- and where they accept
+-- and where it accepts
 ready : (c : tie.After-enum-told) →
     let a = entry (judged c) .args in
-    let r = judged c .judge-first .result in
-    let after = judged c .judge-first .last .1 .1 in
-    Ready (a .ok) (a .s .now) (r .sheet) (r .states) (after .0) (after .1 .0) (after .1 .1 .0)
-ready c = subst (Says (judged c)) (c .enum-told .given .1) (judged c .judge-first .ensures)
+    let r = judged c .open-sheet .result in
+    let after = judged c .open-sheet .last .1 .1 in
+    Opened (a .ok) (a .s .now) (r .sheet) (r .states) (r .kept) (after .0) (after .1 .0) (after .1 .1 .0)
+ready c = subst (Says (judged c)) (c .enum-told .given .1) (judged c .open-sheet .ensures .0)
 
 -- the work memory is as long as before
 long : (c : tie.After-enum-told) →
     let a = entry (judged c) .args in
-    let after = judged c .judge-first .last .1 .1 in
+    let after = judged c .open-sheet .last .1 .1 in
     Room (after .0) (after .1 .0) (after .1 .1 .0) (a .gains .now) (a .bonuses .now) (a .values .now) (a .next .now) (a .choices .now) (a .order .now) (a .numbers .now)
 long c =
     let w = entry (judged c) .pre (ready c .long) in
-    let kept = judged c .judge-first .kept .1 .1 in
+    let kept = judged c .open-sheet .kept .1 .1 in
     record {
       tuples-long = omega (arith, w .tuples-long, kept .0);
       cells-long = omega (arith, w .cells-long, kept .1 .0);
@@ -81,8 +83,8 @@ long c =
       numbers-long = w .numbers-long;
     }
 
-judge-first-requires : tie.Need-judge-first-requires
-judge-first-requires c κs = λ e. let w = c .before .before .before .before .before .before .before .before .before .before .before .before .before .before .before .pre e in (w .tuples-long, (w .cells-long, w .dropped-long))
+open-sheet-requires : tie.Need-open-sheet-requires
+open-sheet-requires c κs = λ e. let w = c .before .before .before .before .before .before .before .before .before .before .before .before .before .before .before .pre e in (w .tuples-long, (w .cells-long, w .dropped-long))
 
 enum-known-verdict : tie.Need-enum-known-verdict
 enum-known-verdict c = search needs
@@ -99,7 +101,7 @@ pow2-requires-2 c κs = omega (arith, outputs-low (ready (c .before .before) .fi
 plan-requires : tie.Need-plan-requires
 plan-requires c κs = let at = c .before .before .before .before .before .before .before .before .before .before in
     let r = ready (told at) in
-    (r .fits, (r .playable, ((at .before .pow2 .ensures, (at .pow22 .ensures, horizon-in-bounds (r .fits))), long (told at))))
+    (r .fits, (playable (r .solution), ((at .before .pow2 .ensures, (at .pow22 .ensures, horizon-in-bounds (r .fits))), long (told at))))
 
 table-length-requires : tie.Need-table-length-requires
 table-length-requires c κs = let at = c .before .before .before .before .before .before .before .before .before .before .before .before .before .before in
@@ -107,13 +109,13 @@ table-length-requires c κs = let at = c .before .before .before .before .before
     (inputs-low (ready (told (counted at)) .fits), omega (arith, count-most t, t .following .states))
 
 same-length : tie.Need-same-length
-same-length c = first (planned (c .before)) .judge-first .kept .1 .1 .0
+same-length c = first (planned (c .before)) .open-sheet .kept .1 .1 .0
 
 same-length-2 : tie.Need-same-length-2
-same-length-2 c = first (planned (c .before)) .judge-first .kept .1 .1 .1 .0
+same-length-2 c = first (planned (c .before)) .open-sheet .kept .1 .1 .1 .0
 
 same-length-3 : tie.Need-same-length-3
-same-length-3 c = first (planned (c .before)) .judge-first .kept .1 .1 .1 .1 .0
+same-length-3 c = first (planned (c .before)) .open-sheet .kept .1 .1 .1 .1 .0
 
 same-length-4 : tie.Need-same-length-4
 same-length-4 c = planned (c .before) .plan .kept .1 .1 .1 .1 .1 .1 .1 .1 .1 .0
@@ -139,7 +141,7 @@ same-length-10 c = planned (c .before) .plan .kept .1 .1 .1 .1 .1 .1 .1 .1 .1 .1
 returns : tie.Need-returns
 returns c = let at = planned (c .before) in
     let r = ready (told (counted at)) in
-    r .answers (layout-short (r .fits) (r .playable) (at .plan .ensures) (entry (first at) .args .result .now) (c .before .table-length .ensures) (omega arith))
+    r .answers guardTableOf statesOf (layout-short (r .fits) (playable (r .solution)) (at .plan .ensures) (entry (first at) .args .result .now) (c .before .table-length .ensures) (omega arith))
 
 write-requires : tie.Need-write-requires
 write-requires c κs = let sized = room c .before in
@@ -147,28 +149,28 @@ write-requires c κs = let sized = room c .before in
     (at .plan .ensures .tabled, (counted at .before .pow2 .ensures, (inputs-low (ready (told (counted at)) .fits), omega (arith, sized .table-length .ensures, room c .if1 .left))))
 
 same-length-11 : tie.Need-same-length-11
-same-length-11 c = refused c .judge-first .kept .1 .1 .0
+same-length-11 c = refused c .open-sheet .kept .1 .1 .0
 
 same-length-12 : tie.Need-same-length-12
-same-length-12 c = refused c .judge-first .kept .1 .1 .1 .0
+same-length-12 c = refused c .open-sheet .kept .1 .1 .1 .0
 
 same-length-13 : tie.Need-same-length-13
-same-length-13 c = refused c .judge-first .kept .1 .1 .1 .1 .0
+same-length-13 c = refused c .open-sheet .kept .1 .1 .1 .1 .0
 
 returns-2 : tie.Need-returns-2
-returns-2 c = let at = refused c in subst (Says at) (c .before .verdict .given .1) (at .judge-first .ensures) (entry at .args .result .now)
+returns-2 c = let at = refused c in subst (Says at) (c .before .verdict .given .1) (at .open-sheet .ensures .0) guardTableOf statesOf (entry at .args .result .now)
 
 same-length-14 : tie.Need-same-length-14
 same-length-14 c = wrote c .write .kept .0
 
 same-length-15 : tie.Need-same-length-15
-same-length-15 c = first (planned (fit c .before)) .judge-first .kept .1 .1 .0
+same-length-15 c = first (planned (fit c .before)) .open-sheet .kept .1 .1 .0
 
 same-length-16 : tie.Need-same-length-16
-same-length-16 c = first (planned (fit c .before)) .judge-first .kept .1 .1 .1 .0
+same-length-16 c = first (planned (fit c .before)) .open-sheet .kept .1 .1 .1 .0
 
 same-length-17 : tie.Need-same-length-17
-same-length-17 c = first (planned (fit c .before)) .judge-first .kept .1 .1 .1 .1 .0
+same-length-17 c = first (planned (fit c .before)) .open-sheet .kept .1 .1 .1 .1 .0
 
 same-length-18 : tie.Need-same-length-18
 same-length-18 c = planned (fit c .before) .plan .kept .1 .1 .1 .1 .1 .1 .1 .1 .1 .0
@@ -194,13 +196,13 @@ same-length-24 c = planned (fit c .before) .plan .kept .1 .1 .1 .1 .1 .1 .1 .1 .
 returns-3 : tie.Need-returns-3
 returns-3 c = let at = planned (fit c .before) in
     let r = ready (told (counted at)) in
-    r .answers (layout-written (r .fits) (r .playable) (at .plan .ensures) (entry (first at) .args .result .now) (fit c .before .table-length .ensures) (omega (arith, fit c .if1 .left)) (wrote c .write .ensures))
+    r .answers guardTableOf statesOf (layout-written (r .fits) (playable (r .solution)) (at .plan .ensures) (entry (first at) .args .result .now) (fit c .before .table-length .ensures) (omega (arith, fit c .if1 .left)) (wrote c .write .ensures))
 
 pub make-with-spec : {M : Type 1} → statement M
 make-with-spec =
     tie.close
     (tie.spec
-    judge-first-requires
+    open-sheet-requires
     enum-known-verdict
     enum-told
     pow2-requires

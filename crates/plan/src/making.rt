@@ -1,20 +1,20 @@
 // The maker of guard tables, but for the work memory, which is left as it falls.
-use crate::opening::judge_first;
-use plan::horizon::plan;
+use crate::horizon::plan;
 use records::layout::Layout;
 use records::numbers::pow2;
 use rows::table::write;
 use sheet::layout::Refusal;
 use sheet::layout::Verdict;
-use supervisor::make::Made;
+use solve::made::Made;
+use solve::opening::open_sheet;
 ghost use mathlib.Core.Path.{_≡_};
 ghost use mathlib.Core.Bool.{true};
 ghost use Rattle.solve.specs.Model.Making.{Answers};
 ghost use Rattle.plan.specs.Model.Table.{guardTableOf, statesOf};
 ghost use Rattle.plan.specs.Model.Planned.{Room};
 
-// The first judgements, then the guard over the sheet's horizon, then 9, and the result is written only then. `ok` says that the
-// work memory is long enough.
+// The opening, then the guard over the sheet's horizon, then 9, and the result is written only then. `ok` says that the work memory is
+// long enough.
 pub fn make_with(
     ok: bool,
     s: &[u8],
@@ -33,7 +33,7 @@ pub fn make_with(
     requires { ⌜ (ok ≡ true → Room (now tuples) (now cells) (now dropped) (now gains) (now bonuses) (now values) (now next) (now choices) (now order) (now numbers)) ⌝ }
     ensures { λ r. ⌜ Answers guardTableOf statesOf ok (now (s .entry)) (now (result .entry)) r (now (result .exit)) ⌝ }
 {
-    let opening = judge_first(ok, s, tuples, cells, dropped);
+    let opening = open_sheet(ok, s, tuples, cells, dropped);
     let verdict = opening.verdict;
     match verdict {
         Verdict::Refused(ground) => Made::Refused(ground),

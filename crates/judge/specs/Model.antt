@@ -1,1 +1,0 @@
--- Definitions that go the way the code goes.
