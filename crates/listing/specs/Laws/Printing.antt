@@ -25,7 +25,7 @@ use Rattle.sheet.specs.declared.layout.Refusal.{Refusal}
 use Rattle.product.specs.Model.Numbered.{stateCount}
 use Rattle.rounds.specs.Model.Rounds.{isIn}
 use Rattle.solve.specs.Model.Steps.{droppedOf}
-use Rattle.solve.specs.Model.Making.{sheetOf, tableNumber, makingNumber, Answers}
+use Rattle.solve.specs.Model.Making.{sheetOf, manyNumber, lostNumber, roomNumber, tableNumber, makingNumber, Answers}
 use Rattle.supervisor.specs.Promises.Supervisor.{tuplesLength, cellsLength, droppedLength}
 use Rattle.solve.specs.declared.made.Made.{Made}
 use Rattle.solve.specs.declared.made.Made.the-variants.{Table, Refused}
@@ -41,18 +41,18 @@ use Rattle.text.specs.Meaning.Listing.{listing, listingOf, tooLongText}
 use Rattle.report.specs.Promises.Report.{Writes, textLength, outcomeDue, outcomeText, listedLength}
 use Rattle.report.specs.Laws.Answers.{writes-fits, outcome-most, listing-made}
 use Rattle.report.specs.declared.Listed.{Listed}
-use Rattle.listing.specs.Model.Printed.{sheetMost, tableMost, solveNumber, sheetGround, guardText, printed, Prints}
+use Rattle.listing.specs.Model.Printed.{sheetMost, tableMost, sheetGround, guardText, printed, Prints}
 
 -- ---- a sheet that is accepted
 
-pass : (a b : Bool) → _≡_ {A = ℕ} (cond a 7 (cond b 0 8)) 0 → (a ≡ false) × (b ≡ true)
-pass true b e = absurd (omega arith)
-pass false true e = (refl, refl)
-pass false false e = absurd (omega arith)
-
-solved : (d : Decoded) → solveNumber d ≡ 0 → (stateCount d ≤ maxStates) × (isIn (droppedOf d) 0 ≡ true)
-unfolding solveNumber
+solved : (d : Decoded) → firstNumber (manyNumber d) (lostNumber d) ≡ 0 → (stateCount d ≤ maxStates) × (isIn (droppedOf d) 0 ≡ true)
+unfolding manyNumber lostNumber
 solved d e = let r = pass (ltb maxStates (stateCount d)) (isIn (droppedOf d) 0) e in (ltb-false maxStates (stateCount d) (r .0), r .1)
+  where
+    pass : (a b : Bool) → firstNumber (cond a 7 0) (cond b 0 8) ≡ 0 → (a ≡ false) × (b ≡ true)
+    pass true b e = absurd (omega arith)
+    pass false true e = (refl, refl)
+    pass false false e = absurd (omega arith)
 
 both : (m n : ℕ) → firstNumber m n ≡ 0 → (m ≡ 0) × (n ≡ 0)
 both zero n e = (refl, e)
@@ -60,7 +60,7 @@ both (suc m) n e = absurd (omega arith)
 
 accepted : (s : List ℕ) → sheetGround s ≡ 0 → (sheetNumber s ≡ 0) × (stateCount (sheetOf s) ≤ maxStates) × (isIn (droppedOf (sheetOf s)) 0 ≡ true)
 unfolding sheetGround
-accepted s e = let r = both (sheetNumber s) (solveNumber (sheetOf s)) e in
+accepted s e = let r = both (sheetNumber s) (firstNumber (manyNumber (sheetOf s)) (lostNumber (sheetOf s))) e in
     let g = solved (sheetOf s) (r .1) in (r .0, g .0, g .1)
 
 module _ (s : List ℕ) (bytes : Bytes s) (none : sheetNumber s ≡ 0) where
@@ -95,8 +95,8 @@ listing-entries d =
 -- ---- the number of the maker's answer
 
 number-as : (d : Decoded) (size room : ℕ) → (stateCount d ≤ maxStates → isIn (droppedOf d) 0 ≡ true → size ≤ room)
-    → tableNumber d size room ≡ solveNumber d
-unfolding tableNumber solveNumber
+    → tableNumber d size room ≡ firstNumber (manyNumber d) (lostNumber d)
+unfolding tableNumber manyNumber lostNumber roomNumber
 number-as d size room h =
     by-test (ltb maxStates (stateCount d)) (λ e. rw e)
     (λ e. by-test (isIn (droppedOf d) 0) (λ f. rw (e, f, le-leb size room (h (ltb-false maxStates (stateCount d) e) f))) (λ f. rw (e, f)))
@@ -107,7 +107,8 @@ unfolding makingNumber sheetGround
 making-as s bytes = go (sheetNumber s) refl
   where
     go : (n : ℕ) → sheetNumber s ≡ n
-        → firstNumber n (tableNumber (sheetOf s) (length (guardTableOf (sheetOf s))) tableMost) ≡ firstNumber n (solveNumber (sheetOf s))
+        → firstNumber n (tableNumber (sheetOf s) (length (guardTableOf (sheetOf s))) tableMost)
+        ≡ firstNumber n (firstNumber (manyNumber (sheetOf s)) (lostNumber (sheetOf s)))
     go zero e = number-as (sheetOf s) (length (guardTableOf (sheetOf s))) tableMost (short s bytes e)
     go (suc n) e = refl
 

@@ -4,16 +4,11 @@ use mathlib.Core.Path.{_≡_}
 use mathlib.Core.Bool.{cond}
 use mathlib.Core.List.{List}
 use Prim.Native.Nat.{ℕ, _≤_}
-use lib.Dec.{ltb, leb, eqb}
+use lib.Dec.{leb, eqb}
 use lib.ListN.{length}
 use lib.Seq.{sets}
-use Rattle.records.specs.Meaning.Limits.{maxStates}
-use Rattle.sheet.specs.Meaning.Decoded.{Decoded}
 use Rattle.sheet.specs.Meaning.Refusals.{sheetNumber, firstNumber}
-use Rattle.product.specs.Model.Numbered.{stateCount}
-use Rattle.rounds.specs.Model.Rounds.{isIn}
-use Rattle.solve.specs.Model.Steps.{droppedOf}
-use Rattle.solve.specs.Model.Making.{sheetOf}
+use Rattle.solve.specs.Model.Making.{sheetOf, manyNumber, lostNumber}
 use Rattle.guard.specs.Model.Table.{guardTableOf}
 use Rattle.text.specs.Meaning.Listing.{listingOf, refusedText, tooLongText}
 
@@ -25,12 +20,9 @@ sheetMost = 16_384
 abbrev pub tableMost : ℕ
 tableMost = 9_226
 
--- the ground for which a sheet is not accepted, 0 for none: 1 to 6, then 7, 8
-unfoldable pub solveNumber : Decoded → ℕ
-solveNumber d = cond (ltb maxStates (stateCount d)) 7 (cond (isIn (droppedOf d) 0) 0 8)
-
+-- the ground for which a sheet is not accepted, 0 for none: 1 to 6, then 7, then 8
 unfoldable pub sheetGround : List ℕ → ℕ
-sheetGround s = firstNumber (sheetNumber s) (solveNumber (sheetOf s))
+sheetGround s = firstNumber (sheetNumber s) (firstNumber (manyNumber (sheetOf s)) (lostNumber (sheetOf s)))
 
 -- the listing of its guard, or the line of its refusal
 unfoldable pub guardText : List ℕ → List ℕ

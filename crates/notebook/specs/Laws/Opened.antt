@@ -27,7 +27,7 @@ use Rattle.rounds.specs.Model.Rounds.{cellAt, isIn, leadsIn, answered, stays, e
 use Rattle.solve.specs.Model.Steps.{cellsOf, droppedOf}
 use Rattle.supervisor.specs.Model.Table.{tableHead, tableOf, supervisorTable}
 use Rattle.masks.specs.Model.Rows.{keptFlag, tableRow}
-use Rattle.solve.specs.Model.Making.{sheetOf, tableNumber, makingNumber}
+use Rattle.solve.specs.Model.Making.{sheetOf, manyNumber, lostNumber, roomNumber, tableNumber, makingNumber}
 use Rattle.values.specs.Meaning.Order.{holds}
 use Rattle.values.specs.Model.Rank.{rankBy, rank}
 use Rattle.values.specs.Model.Values as values
@@ -61,7 +61,7 @@ unfoldable pub supervisors : Unit {0}
 unfolding lists proposal differs siteLetter nextState accepts shadowed shadowMoved sound limitLetter letterOf monitorMoved moved advance broken firstTuple
     explore visit met meet add find statesAfter productStates stateCount stateOf numberOf cellOf
     cellAt isIn leadsIn answered stays entryAfter round rounds settled maskOf
-    cellsOf droppedOf keptFlag tableHead tableRow tableOf supervisorTable tableNumber makingNumber
+    cellsOf droppedOf keptFlag tableHead tableRow tableOf supervisorTable manyNumber lostNumber roomNumber tableNumber makingNumber
 supervisors = tt
 
 -- rewards, values, choices and the guard table
