@@ -12,7 +12,7 @@ ghost use Rattle.sheet.specs.Model.Where.{Fits, decoded};
 ghost use Rattle.product.specs.Model.Range.{InRange};
 ghost use Rattle.product.specs.Meaning.Step.{softReward, weightOf};
 ghost use Rattle.product.specs.Model.States.{tupleAt};
-ghost use Rattle.plan.specs.Model.Table.{bonusOf};
+ghost use Rattle.product.specs.Model.Stages.{matchReward};
 
 // The gain of each of the first `n` tuples.
 pub fn fill_gains(s: &[u8], sheet: Sheet, tuples: &[u8], gains: &mut [u16], n: usize)
@@ -33,7 +33,7 @@ pub fn fill_gains(s: &[u8], sheet: Sheet, tuples: &[u8], gains: &mut [u16], n: u
 pub fn fill_bonuses(sheet: Sheet, bonuses: &mut [u16], inputs: usize, outputs: usize)
     requires { ⌜ ((s : List ℕ) × Fits s sheet) ⌝ }
     requires { ⌜ (1 ≤ inputs) × (inputs * outputs ≤ length (now bonuses)) ⌝ }
-    ensures { λ _. ⌜ ((s : List ℕ) → now (bonuses .exit) ≡ put (now (bonuses .entry)) (inputs * outputs) (λ l. bonusOf (decoded s sheet) (l % inputs) (l / inputs))) ⌝ }
+    ensures { λ _. ⌜ ((s : List ℕ) → now (bonuses .exit) ≡ put (now (bonuses .entry)) (inputs * outputs) (λ l. matchReward (decoded s sheet) (l % inputs) (l / inputs))) ⌝ }
 {
     let mut l: usize = 0;
     while l < inputs * outputs {

@@ -1,6 +1,7 @@
 -- Theorems that other crates and the sources cite.
 pub mod Bits
 pub mod Bounded
+pub mod Cells
 pub mod Cursor
 pub mod GuardTable
 pub mod Limits

@@ -1,6 +1,7 @@
 -- The definitions that the notebook's figures are computed by: a proof that unfolds one of these names unfolds all that it lists.
 -- Assumes nothing.
 use Rattle.records.specs.Meaning.Limits.{linesOk, horizonOk}
+use Rattle.records.specs.Model.Cells.{isBroken}
 use Rattle.records.specs.Meaning.Bounded.{all, any, sum, count}
 use Rattle.records.specs.Model.Bounded.{top}
 use Rattle.records.specs.Meaning.Lists.{tab, cat}
@@ -21,6 +22,7 @@ use Rattle.sheet.specs.Model.Reader.{takeRecord, onFound, readRecords, firstFou
 use Rattle.sheet.specs.Meaning.Refusals.{headNumber, monitorNumber, recordsNumber, sheetNumber}
 use Rattle.sheet.specs.Model.Where.{automaton, decoded}
 use Rattle.product.specs.Meaning.Step.{proposal, differs, siteLetter, nextState, accepts, shadowed, shadowMoved, sound, limitLetter, letterOf, monitorMoved, moved, advance, broken, firstTuple, line, equalLines, softReward}
+use Rattle.product.specs.Model.Stages.{matchReward}
 use Rattle.product.specs.Model.States.{same}
 use Rattle.product.specs.Model.Numbered.{statesAfter, productStates, stateCount, stateOf, numberOf, cellOf}
 use Rattle.rounds.specs.Model.Rounds.{cellAt, isIn, leadsIn, answered, stays, entryAfter, round, rounds, settled, maskOf}
@@ -34,7 +36,7 @@ use Rattle.values.specs.Model.Values as values
 use Rattle.values.specs.Model.Values.{mayGive, earns, scoreOf, worth, valueRow, choiceOf, choices}
 use Rattle.values.specs.Model.Guard.{chosen, follows, guardStates, guardNumber}
 use Rattle.guard.specs.Model.Table as guard
-use Rattle.guard.specs.Model.Table.{gainsOf, bonusOf, bonusesOf, gameOf, valuesOf, choicesOf, guardOf, guardCount, outputOf, guardOver, guardTableOf}
+use Rattle.guard.specs.Model.Table.{gainsOf, bonusesOf, gameOf, valuesOf, choicesOf, guardOf, guardCount, outputOf, guardOver, guardTableOf}
 use Rattle.board.specs.Meaning.Board.{countsOk, live, emptyBoard, runAt}
 use Rattle.tables.specs.Meaning.Loadable as table
 use Rattle.tables.specs.Meaning.Loadable.{sizeOk, fieldsOk, entryOk, entriesOk, rowOk, rowsOk, loadable}
@@ -60,13 +62,13 @@ sheets = tt
 unfoldable pub supervisors : Unit {0}
 unfolding lists proposal differs siteLetter nextState accepts shadowed shadowMoved sound limitLetter letterOf monitorMoved moved advance broken firstTuple
     explore visit met meet add find statesAfter productStates stateCount stateOf numberOf cellOf
-    cellAt isIn leadsIn answered stays entryAfter round rounds settled maskOf
+    cellAt isBroken isIn leadsIn answered stays entryAfter round rounds settled maskOf
     cellsOf droppedOf keptFlag tableHead tableRow tableOf supervisorTable manyNumber lostNumber roomNumber tableNumber makingNumber
 supervisors = tt
 
 -- rewards, values, choices and the guard table
 unfoldable pub guards : Unit {0}
-unfolding supervisors scoresOf line equalLines softReward gainsOf bonusOf bonusesOf gameOf before against leader choose holds rankBy rank
+unfolding supervisors scoresOf line equalLines softReward gainsOf matchReward bonusesOf gameOf before against leader choose holds rankBy rank
     mayGive values.nextOf earns scoreOf worth valueRow valuesOf choiceOf choices choicesOf chosen follows guardStates guardNumber
     guardOf guardCount outputOf guard.nextOf guardRow guardTable guardOver guardTableOf
 guards = tt

@@ -76,7 +76,7 @@ module _
       unfolding mayGive leadsIn nextOf
       next-among e =
           steps .inside _ (cell-in steps state input output)
-          (eqb-false _ _ (not-true _ (and-left (not (isBroken (getD (g .cells) (cellAt (g .inputs) (g .outputs) k i o) 0))) _ e)))
+          (not-true _ (and-left (not (isBroken (getD (g .cells) (cellAt (g .inputs) (g .outputs) k i o) 0))) _ e))
 
       -- and has the same score
       score-agree : (values others : List ℕ) → ((q : ℕ) → q < n → getD values q 0 ≡ getD others q 0) → (factor : ℕ)

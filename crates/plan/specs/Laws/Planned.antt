@@ -16,6 +16,7 @@ use Rattle.sheet.specs.Model.Where.{Fits, decoded}
 use Rattle.sheet.specs.declared.layout.Sheet.{Sheet}
 use Rattle.product.specs.Model.Range.{InRange}
 use Rattle.product.specs.Meaning.Step.{softReward, weightOf}
+use Rattle.product.specs.Model.Stages.{matchReward}
 use Rattle.product.specs.Model.States.{tupleAt}
 use Rattle.product.specs.Laws.Tuples.{reached-in-range}
 use Rattle.product.specs.Model.Numbered.{stateOf}
@@ -35,7 +36,7 @@ use Rattle.values.specs.Model.Values as vals
 use Rattle.values.specs.Model.Numbered.{stepsOf, Following, Numbered}
 use Rattle.values.specs.Laws.Numbered.{entry-met, steps-only}
 use Rattle.values.specs.Laws.Choices.{choices-following}
-use Rattle.plan.specs.Model.Table.{bonusOf, guardOf, guardCount}
+use Rattle.plan.specs.Model.Table.{guardOf, guardCount}
 use Rattle.plan.specs.Laws.Agree.{SameGuard, choicesBy, stored-guard}
 use Rattle.plan.specs.Laws.Solved.{sheet-horizon, few, words-most, layout-literals, stored, sized, code-table}
 use Rattle.rows.specs.Model.Entered.{numbered, tableBy}
@@ -105,7 +106,7 @@ module _ {s : List ℕ} {sheet : Sheet} (fits : Fits s sheet) {n : ℕ} {tuples 
     module _
         (gains₀ bonuses₀ : List ℕ) {gains bonuses : List ℕ}
         (earned : gains ≡ put gains₀ n (λ k. softReward (weightOf (decoded s sheet)) (decoded s sheet) (tupleAt tuples k)))
-        (matched : bonuses ≡ put bonuses₀ (inputs * outputs) (λ l. bonusOf (decoded s sheet) (l % inputs) (l / inputs)))
+        (matched : bonuses ≡ put bonuses₀ (inputs * outputs) (λ l. matchReward (decoded s sheet) (l % inputs) (l / inputs)))
         (gains-room : 256 ≤ length gains₀) (bonuses-room : 64 ≤ length bonuses₀)
       where
         most : n ≤ 256
@@ -119,11 +120,11 @@ module _ {s : List ℕ} {sheet : Sheet} (fits : Fits s sheet) {n : ℕ} {tuples 
             ∙ getD-put-front gains₀ n (λ q. softReward (weightOf (decoded s sheet)) (decoded s sheet) (tupleAt tuples q)) k 0 h low
             ∙ ap (λ (t : List ℕ). softReward (weightOf (decoded s sheet)) (decoded s sheet) t) (p .solution .numbering .tuple k h)
 
-        matched-at : (l : ℕ) → l < inputs * outputs → getD bonuses l 0 ≡ bonusOf (decoded s sheet) (l % inputs) (l / inputs)
+        matched-at : (l : ℕ) → l < inputs * outputs → getD bonuses l 0 ≡ matchReward (decoded s sheet) (l % inputs) (l / inputs)
         matched-at l h =
             let low : l < length bonuses₀ = omega (arith, counts-low .4) in
             ap (λ (x : List ℕ). getD x l 0) matched
-            ∙ getD-put-front bonuses₀ (inputs * outputs) (λ q. bonusOf (decoded s sheet) (q % inputs) (q / inputs)) l 0 h low
+            ∙ getD-put-front bonuses₀ (inputs * outputs) (λ q. matchReward (decoded s sheet) (q % inputs) (q / inputs)) l 0 h low
 
         abbrev game : Game
         game = sizes.gameOf cells dropped gains bonuses inputs outputs

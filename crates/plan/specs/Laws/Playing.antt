@@ -8,10 +8,11 @@ use Rattle.records.specs.Laws.Tests.{by-test, and-left, and-right}
 use Rattle.records.specs.Meaning.Limits.{maxStates}
 use Rattle.records.specs.Laws.Lists.{getD-tab}
 use Rattle.sheet.specs.Meaning.Decoded.{Decoded}
-use Rattle.product.specs.Meaning.Step.{inputsOf, outputsOf, advance, unbroken, softReward, weightOf, rewardBy, reward}
+use Rattle.product.specs.Meaning.Step.{inputsOf, outputsOf, advance, unbroken, softReward, weightOf, reward}
 use Rattle.product.specs.Model.States.{lettersOf}
 use Rattle.product.specs.Model.Numbered.{stateCount, stateOf, numberOf}
 use Rattle.product.specs.Laws.Numbered.{state-number}
+use Rattle.product.specs.Laws.Rewards.{reward-parts}
 use Rattle.game.specs.Model.Rounds.{keptAfter, may}
 use Rattle.game.specs.Laws.Reachable.{letter-low, letter-input, letter-output}
 use Rattle.game.specs.Laws.Naming.{Names}
@@ -21,7 +22,7 @@ use Rattle.solve.specs.Model.Steps.{cellsOf, droppedOf}
 use Rattle.solve.specs.Laws.Numbered.{goes, passes, leads-game}
 use Rattle.solve.specs.Laws.Entries.{sheet-steps, numbers-name, in-kept}
 use Rattle.values.specs.Model.Values.{mayGive, nextOf, earns}
-use Rattle.plan.specs.Model.Table.{gainsOf, bonusOf, bonusesOf, gameOf}
+use Rattle.plan.specs.Model.Table.{gainsOf, bonusesOf, gameOf}
 use Rattle.plan.specs.Model.Playing.{mayAt, Inside}
 
 -- ---- its table of steps
@@ -65,12 +66,13 @@ module _ (d : Decoded) (fits : stateCount d ≤ maxStates) where
 
       -- and the step earns its reward
       pub earns-is : earns (gameOf d) k i o ≡ reward d (stateOf d k) i o
-      unfolding gameOf earns gainsOf bonusesOf bonusOf reward rewardBy advance
+      unfolding gameOf earns gainsOf bonusesOf
       earns-is =
           ap₂ _+_
           (getD-tab (stateCount d) _ (nextOf (gameOf d) k i o) 0 (next-inside .low) ∙ ap (softReward (weightOf d) d) next-lands)
           (getD-tab (lettersOf d) _ (i + inputsOf d * o) 0 (letter-low (inputsOf d) (outputsOf d) i o input output)
           ∙ rw (letter-input (inputsOf d) i o input, letter-output (inputsOf d) i o input))
+          ∙ sym (reward-parts d (stateOf d k) i o)
 
   -- the numbers of the states that are in are names of their tuples
   pub plays : Names ℕ (List ℕ) (inputsOf d) (outputsOf d)

@@ -33,7 +33,7 @@ use Rattle.solve.specs.Laws.Solving.{inputs-most, outputs-most, letters-most, c
 use Rattle.values.specs.Model.Values.{Game, Sized}
 use Rattle.values.specs.Model.Guard.{chosen, follows}
 use Rattle.plan.specs.Model.Table as table
-use Rattle.plan.specs.Model.Table.{gainsOf, bonusOf, bonusesOf, gameOf, guardOf, guardCount, outputOf, guardOver}
+use Rattle.plan.specs.Model.Table.{gainsOf, bonusesOf, gameOf, guardOf, guardCount, outputOf, guardOver}
 use Rattle.plan.specs.Laws.Reaching.{next-low}
 use Rattle.plan.specs.Laws.Agree.{table-ext, Stored, SameGuard, choicesBy}
 
@@ -55,11 +55,6 @@ pub words-most : (d : Decoded) (h : ℕ) → horizonOk (inputLines d) h ≡ true
 words-most d h far =
     rw (pow-pow 2 (inputLines d) h) (pow-mono {i = inputLines d * h} {j = 24} (horizon-facts (inputLines d) h far .product-most))
 
--- a letter's bonus is what the step's equal lines earn
-pub bonus-match : (d : Decoded) (i o : ℕ) → bonusOf d i o ≡ matchReward d i o
-unfolding bonusOf matchReward
-bonus-match d i o = refl
-
 -- the literals of a layout's sheet
 pub layout-literals : (s : List ℕ) (h : Sheet) → tab (h .outputs) (λ j. getD (h .literals) j 0) ≡ decoded s h .literals
 unfolding decoded
@@ -78,9 +73,9 @@ module _
     module _
         (gains bonuses : List ℕ) (inputs outputs : ℕ) (is-inputs : inputs ≡ inputsOf d) (is-outputs : outputs ≡ outputsOf d)
         (earned : (k : ℕ) → k < n → getD gains k 0 ≡ softReward (weightOf d) d (stateOf d k))
-        (matched : (l : ℕ) → l < inputs * outputs → getD bonuses l 0 ≡ bonusOf d (l % inputs) (l / inputs))
+        (matched : (l : ℕ) → l < inputs * outputs → getD bonuses l 0 ≡ matchReward d (l % inputs) (l / inputs))
       where
-        bonus-at : (l : ℕ) → l < lettersOf d → getD bonuses l 0 ≡ bonusOf d (l % inputsOf d) (l / inputsOf d)
+        bonus-at : (l : ℕ) → l < lettersOf d → getD bonuses l 0 ≡ matchReward d (l % inputsOf d) (l / inputsOf d)
         bonus-at = rw (is-inputs, is-outputs) at matched
 
         -- it is the sheet's, as far as it is read
@@ -122,7 +117,7 @@ module _
               gains = omega arith;
               gain = λ k h. rw (earned k h) (soft-most d ok (stateOf d k));
               bonuses = omega arith;
-              bonus = λ l h. rw (matched l h, bonus-match d (l % inputs) (l / inputs)) (match-most d ok (l % inputs) (l / inputs));
+              bonus = λ l h. rw (matched l h) (match-most d ok (l % inputs) (l / inputs));
             }
 
 -- ---- the table, by the code's numbering

@@ -1,15 +1,14 @@
 -- The model of the guard table of a sheet over a horizon h.
 -- Assumes nothing.
-use mathlib.Core.Bool.{cond}
 use mathlib.Core.List.{List}
 use Prim.Native.Nat.{ℕ, _*_, _/_, _%_, _^_}
-use lib.Dec.{eqb}
 use lib.ListN.{length, getD}
 use Rattle.records.specs.Meaning.Lists.{tab}
 use Rattle.records.specs.Meaning.Numbers.{zeros}
 use Rattle.records.specs.Meaning.GuardTable.{guardTable}
 use Rattle.sheet.specs.Meaning.Decoded.{Decoded, inputLines}
-use Rattle.product.specs.Meaning.Step.{inputsOf, outputsOf, softReward, weightOf, equalLines}
+use Rattle.product.specs.Meaning.Step.{inputsOf, outputsOf, softReward, weightOf}
+use Rattle.product.specs.Model.Stages.{matchReward}
 use Rattle.product.specs.Model.States.{lettersOf}
 use Rattle.product.specs.Model.Numbered.{stateCount, stateOf}
 use Rattle.solve.specs.Model.Steps.{cellsOf, droppedOf}
@@ -20,12 +19,9 @@ use Rattle.values.specs.Model.Guard.{chosen, follows, guardStates, guardNumber}
 unfoldable pub gainsOf : Decoded → List ℕ
 gainsOf d = tab (stateCount d) (λ k. softReward (weightOf d) d (stateOf d k))
 
--- what the equal lines of a letter earn, in mode 1
-unfoldable pub bonusOf : Decoded → ℕ → ℕ → ℕ
-bonusOf d i o = cond (eqb (d .mode) 1) (d .matching * equalLines d i o) 0
-
+-- what the equal lines of each letter earn
 unfoldable pub bonusesOf : Decoded → List ℕ
-bonusesOf d = tab (lettersOf d) (λ l. bonusOf d (l % inputsOf d) (l / inputsOf d))
+bonusesOf d = tab (lettersOf d) (λ l. matchReward d (l % inputsOf d) (l / inputsOf d))
 
 -- the table that values are worked out over
 unfoldable pub gameOf : Decoded → Game

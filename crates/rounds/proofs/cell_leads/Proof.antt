@@ -1,7 +1,6 @@
 -- `rounds::cell_leads`: a broken step, one to a state that the round has dropped, one to another. Assumes nothing.
 use Prim.Native.Nat.{_<_}
 use native.Mathlib.Omega.{arith}
-use borrow.Author.Tests.{eqb-false}
 use lib.ListN.{length, getD}
 use mathlib.Core.Path.{_≡_}
 use mathlib.Core.Bool.{false}
@@ -21,7 +20,7 @@ unbroken : (c : tie.Else1) → isBroken (getD (entry c .args .cells .now) (entry
 unbroken c = said (c .before .is-broken .ensures) (c .if1 .left)
 
 target : (c : tie.Else1) → getD (entry c .args .cells .now) (entry c .args .at) 0 < length (entry c .args .dropped .now)
-target c = entry c .pre .target (eqb-false _ _ (unbroken c))
+target c = entry c .pre .target (unbroken c)
 
 mul-cell : tie.Need-mul-cell
 mul-cell c = search needs

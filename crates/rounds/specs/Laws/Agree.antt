@@ -44,7 +44,7 @@ module _
       leads-agree at h =
           rw (← same at h)
           (by-test (isBroken (getD cells at 0)) (λ y. rw y)
-          (λ y. rw y (in-agree n a b entries _ (table .inside at h (eqb-false _ _ y)))))
+          (λ y. rw y (in-agree n a b entries _ (table .inside at h y))))
 
       -- so a state stays when it does over the other
       pub stays-agree : (k : ℕ) → k < n → stays cells a inputs outputs k ≡ stays others b inputs outputs k

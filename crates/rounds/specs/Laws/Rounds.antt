@@ -27,7 +27,7 @@ module _ {cells : List ℕ} {n inputs outputs : ℕ} (table : Steps cells n inpu
     pub leads-cong : (at : ℕ) → at < n * (inputs * outputs) → leadsIn cells a at ≡ leadsIn cells b at
     unfolding leadsIn
     leads-cong at h =
-        by-test (isBroken (getD cells at 0)) (λ y. rw y) (λ y. rw y (same _ (table .inside at h (eqb-false _ _ y))))
+        by-test (isBroken (getD cells at 0)) (λ y. rw y) (λ y. rw y (same _ (table .inside at h y)))
 
     pub stays-cong : (k : ℕ) → k < n → stays cells a inputs outputs k ≡ stays cells b inputs outputs k
     unfolding stays answered

@@ -1,22 +1,22 @@
 -- The rounds that drop lost states (document 01), over a table of steps.
 -- The table has a row of inputs × outputs cells for each state; the cell of input i and output o stands at i + inputs × o
--- and holds the number of the state after the step, or `brokenCell` where the step is broken.
+-- and holds the number of the state after the step, or a mark where the step is broken.
 -- A state's entry in a list of rounds is the round, counted from 1, that dropped it, and 0 while it is in.
 -- Assumes nothing.
 use mathlib.Core.Path.{_≡_}
-use mathlib.Core.Bool.{Bool, cond, not, _&&_}
+use mathlib.Core.Bool.{Bool, false, cond, not, _&&_}
 use mathlib.Core.List.{List}
 use Prim.Native.Nat.{ℕ, zero, suc, _+_, _*_, _^_, _≤_, _<_}
 use lib.Dec.{eqb}
 use lib.ListN.{length, getD}
 use Rattle.records.specs.Meaning.Bounded.{all, any, sum, count}
 use Rattle.records.specs.Model.Lists.{put}
-use Rattle.records.specs.Model.Cells.{brokenCell, isBroken}
+use Rattle.records.specs.Model.Cells.{isBroken}
 
 -- the table has n rows, and every unbroken step leads to one of the n states
 pub record Steps (cells : List ℕ) (n inputs outputs : ℕ) : Type 0 where
   pub rows : n * (inputs * outputs) ≤ length cells
-  pub inside : (at : ℕ) → at < n * (inputs * outputs) → (getD cells at 0 ≡ brokenCell → ⊥) → getD cells at 0 < n
+  pub inside : (at : ℕ) → at < n * (inputs * outputs) → isBroken (getD cells at 0) ≡ false → getD cells at 0 < n
 
 -- the cell of a state, an input and an output
 unfoldable pub cellAt : ℕ → ℕ → ℕ → ℕ → ℕ → ℕ

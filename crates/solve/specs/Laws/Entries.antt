@@ -10,8 +10,8 @@ use native.Mathlib.Omega.{arith}
 use lib.Arith.{digits-lt, digits-div, digits-mod}
 use lib.Dec.{eqb}
 use lib.ListN.{length, getD, length-replicate}
-use borrow.Author.Tests.{ne-eqb}
-use Rattle.records.specs.Laws.Tests.{by-test}
+
+use Rattle.records.specs.Laws.Tests.{by-test, both-ways}
 use Rattle.records.specs.Meaning.Limits.{maxStates}
 use Rattle.records.specs.Laws.Lists.{getD-tab, length-tab}
 use Rattle.records.specs.Meaning.Numbers.{zeros}
@@ -25,7 +25,8 @@ use Rattle.game.specs.Model.Rounds.{keptAfter, droppedBy, may, Quiet}
 use Rattle.game.specs.Laws.Rounds.{quiet-on, kept-dropped, kept-iff, lost-iff, allowed-iff}
 use Rattle.game.specs.Laws.Naming.{Names, dropped-named}
 use Rattle.game.specs.Laws.Reachable.{letter-low, letter-input, letter-output, input-low, output-low, reachable-closed}
-use Rattle.records.specs.Model.Cells.{brokenCell}
+use Rattle.records.specs.Model.Cells.{brokenCell, isBroken}
+use Rattle.records.specs.Laws.Cells.{mark-broken, number-unbroken}
 use Rattle.rounds.specs.Model.Rounds.{Steps, cellAt, isIn, leadsIn, rounds, settled}
 use Rattle.solve.specs.Meaning.Allowed.{Kept, Lost, Allowed}
 use Rattle.solve.specs.Model.Steps.{cellsOf, droppedOf}
@@ -51,15 +52,15 @@ module _ (d : Decoded) where
   module _ (fits : stateCount d ≤ maxStates) where
     -- a cell that is not broken holds a state's number
     cell-in-range : (k i o : ℕ) → k < stateCount d → i < inputsOf d → o < outputsOf d
-        → (cellOf d k i o ≡ brokenCell → ⊥) → cellOf d k i o < stateCount d
+        → isBroken (cellOf d k i o) ≡ false → cellOf d k i o < stateCount d
     unfolding cellOf
     cell-in-range k i o hk hi ho = go (unbroken d (stateOf d k) i o) (λ e. step-number d fits k i o hk hi ho e .0)
       where
         go : (b : Bool) → (b ≡ true → numberOf d (advance d (stateOf d k) i o) < stateCount d)
-            → (cond b (numberOf d (advance d (stateOf d k) i o)) brokenCell ≡ brokenCell → ⊥)
+            → isBroken (cond b (numberOf d (advance d (stateOf d k) i o)) brokenCell) ≡ false
             → cond b (numberOf d (advance d (stateOf d k) i o)) brokenCell < stateCount d
         go true f z = f refl
-        go false f z = absurd (z refl)
+        go false f z = both-ways mark-broken z
 
     -- the cells are a table of steps
     pub sheet-steps : Steps (cellsOf d) (stateCount d) (inputsOf d) (outputsOf d)
@@ -84,9 +85,9 @@ module _ (d : Decoded) where
         (go (unbroken d (stateOf d k) i o) (λ e. step-number d fits k i o hk hi ho e .0))
       where
         go : (b : Bool) → (b ≡ true → numberOf d (advance d (stateOf d k) i o) < stateCount d)
-            → not (eqb (cond b (numberOf d (advance d (stateOf d k) i o)) brokenCell) brokenCell) ≡ b
-        go true f = rw (ne-eqb (numberOf d (advance d (stateOf d k) i o)) brokenCell (λ z. omega (arith, f refl)))
-        go false f = refl
+            → not (isBroken (cond b (numberOf d (advance d (stateOf d k) i o)) brokenCell)) ≡ b
+        go true f = rw (number-unbroken (numberOf d (advance d (stateOf d k) i o)) (omega (arith, f refl)))
+        go false f = rw mark-broken
 
     -- and leads to the number of the next tuple
     goes-is : (k i o : ℕ) → k < stateCount d → i < inputsOf d → o < outputsOf d

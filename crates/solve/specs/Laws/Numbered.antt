@@ -7,7 +7,6 @@ use Prim.Native.Nat.{ℕ, zero, suc, _≤_, _<_}
 use native.Mathlib.Omega.{arith}
 use lib.Dec.{eqb}
 use lib.ListN.{length, getD}
-use borrow.Author.Tests.{eqb-false}
 use Rattle.records.specs.Laws.Tests.{by-test}
 use Rattle.records.specs.Laws.Bounded.{all-cong, any-cong}
 use Rattle.records.specs.Laws.Lists.{getD-put-front}
@@ -34,7 +33,7 @@ module _ {cells : List ℕ} {n inputs outputs : ℕ} (table : Steps cells n inpu
     unfolding leadsIn goes passes
     leads-game k i o hk hi ho =
         by-test (isBroken (getD cells (cellAt inputs outputs k i o) 0)) (λ y. rw y)
-        (λ y. rw y (same _ (table .inside _ (cell-in table hk hi ho) (eqb-false _ _ y))))
+        (λ y. rw y (same _ (table .inside _ (cell-in table hk hi ho) y)))
 
     -- and a state stays when the game keeps it
     pub stays-game : (k : ℕ) → k < n

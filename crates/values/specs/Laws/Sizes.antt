@@ -1,7 +1,7 @@
 -- Laws of what the code relies on.
 -- Assumes nothing.
 use mathlib.Core.Path.{_≡_, refl}
-use mathlib.Core.Bool.{true, not}
+use mathlib.Core.Bool.{true, false, not}
 use mathlib.Core.List.{List}
 use Prim.Native.Nat.{ℕ, _+_, _*_, _<_}
 use native.Mathlib.Nat.{mul-comm}
@@ -10,7 +10,7 @@ use borrow.Author.Tests.{eqb-false, not-true}
 use lib.Arith.{digits-lt}
 use lib.ListN.{getD}
 use Rattle.records.specs.Laws.Tests.{and-left, and-right}
-use Rattle.records.specs.Model.Cells.{brokenCell, isBroken}
+use Rattle.records.specs.Model.Cells.{isBroken}
 use Rattle.rounds.specs.Model.Rounds.{Steps, isIn, leadsIn}
 use Rattle.rounds.specs.Laws.Cells.{Entered, cell-in}
 use Rattle.values.specs.Model.Values.{Game, Sized, mayGive, nextOf, scoreOf, earns}
@@ -19,10 +19,10 @@ use Rattle.values.specs.Model.Sizes.{Valued, scoreAt, Scored}
 -- ---- a step of a sized table
 
 -- a cell that leads to a kept state is unbroken
-pub leads-unbroken : (cells dropped : List ℕ) (at : ℕ) → leadsIn cells dropped at ≡ true → getD cells at 0 ≡ brokenCell → ⊥
+pub leads-unbroken : (cells dropped : List ℕ) (at : ℕ) → leadsIn cells dropped at ≡ true → isBroken (getD cells at 0) ≡ false
 unfolding leadsIn
 leads-unbroken cells dropped at e =
-    eqb-false _ _ (not-true _ (and-left (not (isBroken (getD cells at 0))) (isIn dropped (getD cells at 0)) e))
+    not-true _ (and-left (not (isBroken (getD cells at 0))) (isIn dropped (getD cells at 0)) e)
 
 pub leads-kept : (cells dropped : List ℕ) (at : ℕ) → leadsIn cells dropped at ≡ true → isIn dropped (getD cells at 0) ≡ true
 unfolding leadsIn

@@ -3,14 +3,14 @@
 -- lines earn, so that a step earns the gain of the state after it and the bonus of its letter.
 -- Assumes nothing.
 use mathlib.Core.Path.{_≡_}
-use mathlib.Core.Bool.{Bool, cond}
+use mathlib.Core.Bool.{Bool, false, cond}
 use mathlib.Core.List.{List}
 use Prim.Native.Nat.{ℕ, zero, suc, _+_, _*_, _/_, _%_, _^_, _≤_, _<_}
 use lib.ListN.{length, getD}
 use Rattle.records.specs.Meaning.Bounded.{sum}
 use Rattle.records.specs.Model.Bounded.{top}
 use Rattle.records.specs.Model.Lists.{put}
-use Rattle.records.specs.Model.Cells.{brokenCell}
+use Rattle.records.specs.Model.Cells.{isBroken}
 use Rattle.game.specs.Model.Choice.{choose}
 use Rattle.rounds.specs.Model.Rounds.{cellAt, isIn, leadsIn}
 use Rattle.values.specs.Model.Rank.{rank}
@@ -67,7 +67,7 @@ pub record Sized (g : Game) (n : ℕ) : Type 0 where
   pub outputs-most : g .outputs ≤ 8
   pub states : n ≤ 256
   pub rows : n * (g .inputs * g .outputs) ≤ length (g .cells)
-  pub inside : (at : ℕ) → at < n * (g .inputs * g .outputs) → (getD (g .cells) at 0 ≡ brokenCell → ⊥) → getD (g .cells) at 0 < n
+  pub inside : (at : ℕ) → at < n * (g .inputs * g .outputs) → isBroken (getD (g .cells) at 0) ≡ false → getD (g .cells) at 0 < n
   pub dropped : n ≤ length (g .dropped)
   pub gains : n ≤ length (g .gains)
   pub gain : (k : ℕ) → k < n → getD (g .gains) k 0 ≤ 1530

@@ -11,14 +11,13 @@ use Rattle.records.specs.Laws.Lists.{put-none, put-more, length-put}
 use Rattle.sheet.specs.Model.Where.{decoded}
 use Rattle.sheet.specs.declared.layout.Sheet.{Sheet}
 use Rattle.product.specs.Laws.Rewards.{match-most}
-use Rattle.plan.specs.Model.Table.{bonusOf}
-use Rattle.plan.specs.Laws.Solved.{bonus-match}
+use Rattle.product.specs.Model.Stages.{matchReward}
 use Rattle.plan.proofs.gains.fill_bonuses.Statement.{statement}
 use Rattle.plan.proofs.gains.fill_bonuses.Tie as tie
 
 -- the bonus of letter l
 abbrev bonus : Sheet → ℕ → List ℕ → ℕ → ℕ
-bonus sheet inputs s l = bonusOf (decoded s sheet) (l % inputs) (l / inputs)
+bonus sheet inputs s l = matchReward (decoded s sheet) (l % inputs) (l / inputs)
 
 abbrev Inv-loop : tie.InvT-loop
 Inv-loop sheet bonuses₀ inputs outputs l₀ bonuses l =
@@ -37,7 +36,7 @@ turn c = c .before .before
 -- what the call says
 matched : (c : tie.After-match-reward Inv-loop μ-loop) (s : List ℕ) → let a = entry (c .before) .args in
     c .match-reward .result ≡ bonus (a .sheet) (a .inputs) s (turn c .loop .l)
-matched c s = c .match-reward .ensures s ∙ sym (bonus-match _ _ _)
+matched c s = c .match-reward .ensures s
 
 room : (c : tie.At-loop Inv-loop μ-loop) → length (c .loop .bonuses) ≡ length (c .before .before .args .bonuses .now)
 room c = rw (c .loop .inv .1 [], length-put)
