@@ -1,3 +1,2 @@
 -- Definitions that go the way the code goes.
-pub mod Table
 pub mod Lent

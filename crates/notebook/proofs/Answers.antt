@@ -13,9 +13,9 @@ use Rattle.product.specs.Model.Numbered.{stateCount}
 use Rattle.supervisor.specs.Model.Table.{supervisorTable}
 use Rattle.supervisor.specs.Promises.Supervisor.{workOk, MakesSupervisor}
 use Rattle.solve.specs.declared.made.Made.{Made}
-use Rattle.guard.specs.Model.Table.{guardTableOf}
+use Rattle.plan.specs.Model.Table.{guardTableOf, statesOf}
 use Rattle.guard.specs.Promises.Guard as guard
-use Rattle.guard.specs.Promises.Guard.{guardStates, Work, MakesGuard}
+use Rattle.guard.specs.Promises.Guard.{Work, MakesGuard}
 use Rattle.guard.specs.Model.Lent.{lent}
 use Rattle.notebook.specs.Model.Counters.{sheetBytes, length-sheet, Answered}
 
@@ -42,7 +42,7 @@ guard-work = refl
 
 pub guard-answered : {s before after : List ℕ} {r : Made} {w : Work} {room : ℕ}
     → MakesGuard s before w r after
-    → w ≡ lent 3072 16384 256 256 64 256 256 4096 256 256 → length before ≡ room → Answered guardTableOf guardStates s room r
+    → w ≡ lent 3072 16384 256 256 64 256 256 4096 256 256 → length before ≡ room → Answered guardTableOf statesOf s room r
 guard-answered m a d =
     record {
       number = rw (← guard-work, ← a, ← d) (m .makes .answers .number);

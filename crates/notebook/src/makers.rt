@@ -6,8 +6,7 @@ use supervisor::make::Supervisor;
 ghost use Prim.Native.Nat.{_≤_};
 ghost use Rattle.product.specs.Model.Numbered.{stateCount};
 ghost use Rattle.supervisor.specs.Model.Table.{supervisorTable};
-ghost use Rattle.guard.specs.Model.Table.{guardTableOf};
-ghost use Rattle.guard.specs.Promises.Guard.{guardStates};
+ghost use Rattle.plan.specs.Model.Table.{guardTableOf, statesOf};
 ghost use Rattle.notebook.specs.Model.Counters.{sheetBytes, Answered};
 
 fn supervisor_of(sheet: &[u8]) -> Made
@@ -21,7 +20,7 @@ fn supervisor_of(sheet: &[u8]) -> Made
 }
 
 fn guard_of(sheet: &[u8]) -> Made
-    ensures { λ r. ⌜ Answered guardTableOf guardStates (now (sheet .entry)) 2048 r ⌝ }
+    ensures { λ r. ⌜ Answered guardTableOf statesOf (now (sheet .entry)) 2048 r ⌝ }
 {
     let mut result = [0u8; 2048];
     let mut tuples = [0u8; 3072];
@@ -63,7 +62,7 @@ pub fn counters_supervisor(n: usize, m: usize) -> Made
 // And the guard's.
 pub fn counters_guard(n: usize, m: usize) -> Made
     requires { ⌜ (n ≤ 32) × (m ≤ 32) ⌝ }
-    ensures { λ r. ⌜ Answered guardTableOf guardStates (sheetBytes n m) 2048 r ⌝ }
+    ensures { λ r. ⌜ Answered guardTableOf statesOf (sheetBytes n m) 2048 r ⌝ }
 {
     let mut sheet = [0u8; 512];
     let size = put_sheet(&mut sheet, n, m);

@@ -14,7 +14,7 @@ use Rattle.solve.specs.Laws.Grounds.{start-in}
 use Rattle.board.specs.Meaning.Board.{live}
 use Rattle.board.specs.declared.Board.{Board}
 use Rattle.guard.specs.Meaning.Guard.{Move, strays, after, says, Shows, Faithful}
-use Rattle.guard.specs.Model.Table.{guardCount, outputOf, nextOf, guardOver}
+use Rattle.plan.specs.Model.Table.{guardCount, outputOf, nextOf, guardOver}
 use Rattle.plan.specs.Laws.Reaching.{Winning}
 use Rattle.guard.specs.Laws.Representing.{tuplesOf, start-winning, move-winning, move-is, represents}
 use Rattle.guard.specs.Laws.Running.{Stands, runs, stands-shows}

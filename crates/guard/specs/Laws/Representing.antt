@@ -20,7 +20,7 @@ use Rattle.values.specs.Meaning.Order.{Higher}
 use Rattle.values.specs.Model.Rank.{rank}
 use Rattle.values.specs.Laws.Ranks.{rank-order, rank-injective}
 use Rattle.guard.specs.Meaning.Guard.{Move}
-use Rattle.guard.specs.Model.Table.{guardOf, guardCount, outputOf, nextOf}
+use Rattle.plan.specs.Model.Table.{guardOf, guardCount, outputOf, nextOf}
 use Rattle.plan.specs.Model.Playing.{choiceAt}
 use Rattle.plan.specs.Laws.Reaching.{Winning, guard-some, guard-first, next-low, output-is, next-tuple}
 

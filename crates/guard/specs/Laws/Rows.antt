@@ -30,7 +30,7 @@ use Rattle.plan.specs.Model.Playing.{Inside}
 use Rattle.plan.specs.Laws.Reaching.{Winning, inside-winning, follows-lands, Met, met-inside, guard-inside, guard-fits}
 use Rattle.plan.specs.Laws.Judged.{length-over}
 use Rattle.guard.specs.Meaning.Guard.{Move, Chosen, begin, onward, MoveBy, GuardStates}
-use Rattle.guard.specs.Model.Table.{gameOf, choicesOf, guardOf, guardCount, outputOf, nextOf, guardOver}
+use Rattle.plan.specs.Model.Table.{gameOf, choicesOf, guardOf, guardCount, outputOf, nextOf, guardOver}
 use Rattle.guard.specs.Promises.Guard.{Rows}
 use Rattle.guard.specs.Laws.Representing.{tuplesOf, tuple-at, start-winning, choice-moves, move-is, move-winning, represents}
 

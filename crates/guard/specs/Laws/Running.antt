@@ -34,7 +34,7 @@ use Rattle.board.specs.declared.answers.Loading.{Loading}
 use Rattle.board.specs.declared.answers.Stepping.{Stepping}
 use Rattle.board.specs.declared.answers.Changing.{Changing}
 use Rattle.guard.specs.Meaning.Guard.{strays, after, says, Shows}
-use Rattle.guard.specs.Model.Table.{guardCount, outputOf, nextOf, guardOver}
+use Rattle.plan.specs.Model.Table.{guardCount, outputOf, nextOf, guardOver}
 use Rattle.plan.specs.Laws.Reaching.{guard-some, guard-fits, next-low, output-low}
 
 -- ---- the head's bounds

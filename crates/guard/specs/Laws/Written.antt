@@ -14,14 +14,14 @@ use Rattle.solve.specs.Promises.Making.{Makes}
 use Rattle.solve.specs.Laws.Judging.{Only, makes, accepted-fits, written-front}
 use Rattle.solve.specs.declared.made.Made.{Made}
 use Rattle.plan.specs.Laws.Solved.{sheet-horizon}
-use Rattle.guard.specs.Model.Table.{guardTableOf}
-use Rattle.guard.specs.Promises.Guard.{Work, workOk, guardStates, Rows, MakesGuard}
+use Rattle.plan.specs.Model.Table.{guardTableOf, statesOf}
+use Rattle.guard.specs.Promises.Guard.{Work, workOk, Rows, MakesGuard}
 use Rattle.guard.specs.Laws.Demand.{faithful}
 use Rattle.guard.specs.Laws.Rows.{table-rows, only-rows}
 
 -- the whole promise, from the answer by the model
 pub guard-makes : {s before : List ℕ} {r : Made} {after : List ℕ} (w : Work)
-    → Answers guardTableOf guardStates (workOk w) s before r after
+    → Answers guardTableOf statesOf (workOk w) s before r after
     → Reads s (reading s) → Only s → MakesGuard s before w r after
 unfolding guardTableOf
 guard-makes {s} {before} {r} {after} w answers read only =
@@ -37,13 +37,13 @@ guard-makes {s} {before} {r} {after} w answers read only =
       work-bytes = omega arith;
     }
   where
-    all : Makes guardTableOf guardStates (workOk w) s before r after
-    all = makes guardTableOf guardStates answers read only
+    all : Makes guardTableOf statesOf (workOk w) s before r after
+    all = makes guardTableOf statesOf answers read only
 
-    rows : (d : Decoded) → Accepted s d → Rows d (d .horizon) (guardStates d) (guardTableOf d)
+    rows : (d : Decoded) → Accepted s d → Rows d (d .horizon) (statesOf d) (guardTableOf d)
     rows d a = table-rows d (a .sheet .in-bounds) (accepted-fits a) (a .realizable) (d .horizon)
 
 -- the same of any bytes, by the laws of the reader
 pub guard-promise : {s before : List ℕ} {r : Made} {after : List ℕ} (w : Work) → Bytes s
-    → Answers guardTableOf guardStates (workOk w) s before r after → MakesGuard s before w r after
+    → Answers guardTableOf statesOf (workOk w) s before r after → MakesGuard s before w r after
 guard-promise {s} w bytes answers = guard-makes w answers (reads s bytes) (only-sheet s)

@@ -15,7 +15,7 @@ use Rattle.solve.specs.Promises.Making.{Makes}
 use Rattle.supervisor.specs.Promises.Supervisor.{tuplesLength, cellsLength, droppedLength}
 use Rattle.solve.specs.declared.made.Made.{Made}
 use Rattle.guard.specs.Meaning.Guard.{Move, GuardStates, Faithful}
-use Rattle.guard.specs.Model.Table.{guardTableOf, guardCount}
+use Rattle.plan.specs.Model.Table.{guardTableOf, statesOf}
 
 -- ---- work memory: how long each slice must be, beside those of the supervisor's maker
 
@@ -58,10 +58,6 @@ workOk w =
     && (leb valuesLength (w .next)
     && (leb choicesLength (w .choices) && (leb orderLength (w .order) && leb orderLength (w .numbers)))))))))
 
--- the number of guard states of a sheet
-abbrev pub guardStates : Decoded → ℕ
-guardStates d = guardCount d (d .horizon)
-
 -- ---- what the rows of a guard table are
 
 -- the table, over the horizon h, has n rows, one for each state of the guard in the order of their numbers
@@ -84,9 +80,9 @@ pub record Rows (d : Decoded) (h n : ℕ) (table : List ℕ) : Type 0 where
 -- ---- the promise: `before` and `after` are the result memory, `w` the lengths of the work memory
 
 pub record MakesGuard (s before : List ℕ) (w : Work) (r : Made) (after : List ℕ) : Type 0 where
-  pub makes : Makes guardTableOf guardStates (workOk w) s before r after
+  pub makes : Makes guardTableOf statesOf (workOk w) s before r after
   -- of the table of every accepted sheet, also where the result is too short for it
-  pub rows : (d : Decoded) → Accepted s d → Rows d (d .horizon) (guardStates d) (guardTableOf d)
+  pub rows : (d : Decoded) → Accepted s d → Rows d (d .horizon) (statesOf d) (guardTableOf d)
   -- which no other bytes have
   pub only : (d : Decoded) → Accepted s d → (n : ℕ) (table : List ℕ) → Rows d (d .horizon) n table → table ≡ guardTableOf d
   -- of the bytes that were written, as a slice of their own: these rows, and demand 3

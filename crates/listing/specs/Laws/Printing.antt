@@ -30,8 +30,8 @@ use Rattle.supervisor.specs.Promises.Supervisor.{tuplesLength, cellsLength, dro
 use Rattle.solve.specs.declared.made.Made.{Made}
 use Rattle.solve.specs.declared.made.Made.the-variants.{Table, Refused}
 use Rattle.tables.specs.Meaning.Loadable.{loadable}
-use Rattle.guard.specs.Model.Table.{outputOf, nextOf, guardOver, guardTableOf}
-use Rattle.guard.specs.Promises.Guard.{gainsLength, bonusesLength, valuesLength, choicesLength, orderLength, guardStates, Work, workOk, MakesGuard}
+use Rattle.plan.specs.Model.Table.{outputOf, nextOf, guardOver, guardTableOf, statesOf}
+use Rattle.guard.specs.Promises.Guard.{gainsLength, bonusesLength, valuesLength, choicesLength, orderLength, Work, workOk, MakesGuard}
 use Rattle.guard.specs.Model.Lent.{Long}
 use Rattle.plan.specs.Laws.Reaching.{guard-fits}
 use Rattle.plan.specs.Laws.Solved.{sheet-horizon}
@@ -79,7 +79,7 @@ module _ (s : List ℕ) (bytes : Bytes s) (none : sheetNumber s ≡ 0) where
     unfolding tableLength rowLength
     short =
         let d = sheetOf s in
-        let few : guardStates d ≤ 256 = omega (arith, guard-fits d fits (d .horizon) start) in
+        let few : statesOf d ≤ 256 = omega (arith, guard-fits d fits (d .horizon) start) in
         let wide : 4 + 2 * 2 ^ inputLines d ≤ 36 = omega (arith, pow-mono {i = inputLines d} {j = 4} (ok .head .inputs)) in
         omega (arith, length-guard d, mul-le-mul few wide)
 
@@ -87,10 +87,10 @@ module _ (s : List ℕ) (bytes : Bytes s) (none : sheetNumber s ≡ 0) where
 
 pub listing-entries : (d : Decoded)
     → listingOf (guardTableOf d)
-    ≡ listing (guardStates d) (inputLines d) (d .outputs) (d .horizon) (outputOf d (d .horizon)) (nextOf d (d .horizon))
+    ≡ listing (statesOf d) (inputLines d) (d .outputs) (d .horizon) (outputOf d (d .horizon)) (nextOf d (d .horizon))
 unfolding guardTableOf guardOver
 listing-entries d =
-    listing-made (d .mode) (inputLines d) (d .outputs) (d .horizon) (guardStates d) (outputOf d (d .horizon)) (nextOf d (d .horizon))
+    listing-made (d .mode) (inputLines d) (d .outputs) (d .horizon) (statesOf d) (outputOf d (d .horizon)) (nextOf d (d .horizon))
 
 -- ---- the number of the maker's answer
 
@@ -127,7 +127,7 @@ pub record Tells (s : List ℕ) (due : Bool) (words : List ℕ) : Type 0 where
   pub words-are : words ≡ guardText s
 
 pub outcome-tells : (s : List ℕ) → Bytes s → (before : List ℕ) → length before ≡ tableMost → (r : Made) {after : List ℕ}
-    → Answers guardTableOf guardStates true s before r after → Tells s (outcomeDue r after) (outcomeText r after)
+    → Answers guardTableOf statesOf true s before r after → Tells s (outcomeDue r after) (outcomeText r after)
 unfolding outcomeDue outcomeText guardText
 outcome-tells s bytes before size (Table count states) {after} answers =
     let d = sheetOf s in
@@ -183,7 +183,7 @@ pub outcome-prints : {s before : List ℕ} {w : Work} {made : Made} {after : Lis
     → Writes (outcomeDue made after) (outcomeText made after) memory x now → {r : ℕ} → r ≡ listedLength x
     → Prints (guardText s) memory r now
 outcome-prints {s} {before} {w} {made} {after} m bytes size long {memory} room writes e =
-    let answers : Answers guardTableOf guardStates true s before made after = rw (work-enough w long) at (m .makes .answers) in
+    let answers : Answers guardTableOf statesOf true s before made after = rw (work-enough w long) at (m .makes .answers) in
     let told = outcome-tells s bytes before size made answers in
     writes-prints writes (told .due-is) (omega (arith, outcome-most made after (told .due-is))) (told .words-are) e
 

@@ -35,8 +35,8 @@ use Rattle.values.specs.Model.Rank.{rankBy, rank}
 use Rattle.values.specs.Model.Values as values
 use Rattle.values.specs.Model.Values.{mayGive, earns, scoreOf, worth, valueRow, choiceOf, choices}
 use Rattle.values.specs.Model.Guard.{chosen, follows, guardStates, guardNumber}
-use Rattle.guard.specs.Model.Table as guard
-use Rattle.guard.specs.Model.Table.{gainsOf, bonusesOf, gameOf, valuesOf, choicesOf, guardOf, guardCount, outputOf, guardOver, guardTableOf}
+use Rattle.plan.specs.Model.Table as guard
+use Rattle.plan.specs.Model.Table.{gainsOf, bonusesOf, gameOf, valuesOf, choicesOf, guardOf, guardCount, outputOf, guardOver, guardTableOf}
 use Rattle.board.specs.Meaning.Board.{countsOk, live, emptyBoard, runAt}
 use Rattle.tables.specs.Meaning.Loadable as table
 use Rattle.tables.specs.Meaning.Loadable.{sizeOk, fieldsOk, entryOk, entriesOk, rowOk, rowsOk, loadable}

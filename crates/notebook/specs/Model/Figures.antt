@@ -14,7 +14,7 @@ use Rattle.board.specs.Meaning.Step.{stepOn, stepOutput}
 use Rattle.board.specs.declared.Board.{Board}
 use Rattle.supervisor.specs.Model.Table.{supervisorTable}
 use Rattle.solve.specs.Model.Making.{sheetOf, makingNumber}
-use Rattle.guard.specs.Model.Table.{gameOf, valuesOf, guardTableOf}
+use Rattle.plan.specs.Model.Table.{gameOf, valuesOf, guardTableOf}
 
 -- ---- the makers
 

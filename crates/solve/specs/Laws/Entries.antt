@@ -10,7 +10,6 @@ use native.Mathlib.Omega.{arith}
 use lib.Arith.{digits-lt, digits-div, digits-mod}
 use lib.Dec.{eqb}
 use lib.ListN.{length, getD, length-replicate}
-
 use Rattle.records.specs.Laws.Tests.{by-test, both-ways}
 use Rattle.records.specs.Meaning.Limits.{maxStates}
 use Rattle.records.specs.Laws.Lists.{getD-tab, length-tab}

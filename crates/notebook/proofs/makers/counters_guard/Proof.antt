@@ -4,8 +4,7 @@ use mathlib.Core.List.{List}
 use Prim.Native.Nat.{ℕ}
 use native.Mathlib.Omega.{arith}
 use lib.ListN.{length}
-use Rattle.guard.specs.Model.Table.{guardTableOf}
-use Rattle.guard.specs.Promises.Guard.{guardStates}
+use Rattle.plan.specs.Model.Table.{guardTableOf, statesOf}
 use Rattle.notebook.specs.Model.Counters.{sheetBytes, Answered}
 use Rattle.notebook.proofs.Answers.{zeros-length, Written, written}
 use Rattle.notebook.proofs.makers.counters_guard.Statement.{statement}
@@ -35,7 +34,7 @@ guard-of-requires c κs = tt
 
 returns : tie.Need-returns
 returns c =
-    subst (λ (s : List ℕ). Answered guardTableOf guardStates s 2048 (c .guard-of .result)) (bytes (c .before .before .before) .part) (c .guard-of .ensures)
+    subst (λ (s : List ℕ). Answered guardTableOf statesOf s 2048 (c .guard-of .result)) (bytes (c .before .before .before) .part) (c .guard-of .ensures)
 
 pub counters-guard-spec : {M : Type 1} → statement M
 counters-guard-spec =

@@ -5,8 +5,8 @@ use native.Mathlib.Omega.{arith}
 use lib.ListN.{length}
 use Rattle.records.specs.Meaning.Numbers.{zeros}
 use Rattle.solve.specs.Model.Making.{Answers}
-use Rattle.guard.specs.Model.Table.{guardTableOf}
-use Rattle.guard.specs.Promises.Guard.{Work, guardStates, MakesGuard}
+use Rattle.plan.specs.Model.Table.{guardTableOf, statesOf}
+use Rattle.guard.specs.Promises.Guard.{Work, MakesGuard}
 use Rattle.guard.specs.Model.Lent.{lent}
 use Rattle.guard.specs.Laws.Lent.{work-room}
 use Rattle.guard.specs.Laws.Written.{guard-promise}
@@ -67,7 +67,7 @@ promise : (c : tie.After-make-with) →
 promise c =
     let start = entered (tested c) .before in
     guard-promise (work start) (λ k. omega (arith, entered (tested c) .shared-slice-known .given k))
-    (subst (λ (b : Bool). Answers guardTableOf guardStates b (start .args .sheet .now) (start .args .result .now) (c .make-with .result) (c .make-with .last .1 .1 .0))
+    (subst (λ (b : Bool). Answers guardTableOf statesOf b (start .args .sheet .now) (start .args .result .now) (c .make-with .result) (c .make-with .last .1 .1 .0))
     (tested c .work-ok .ensures) (c .make-with .ensures))
 
 work-ok-requires : tie.Need-work-ok-requires
