@@ -49,14 +49,14 @@ lent-first table h unload cs l = (tt, l)
 
 module _
     (T B : Type 0) (after : B → Call T → B) (says : B → Call T → Answer)
-    (table : T) (N I limit : ℕ) (out nxt strays : ℕ → ℕ → ℕ) (Empty : B → Type 0) (Stands : B → ℕ → ℕ → ℕ → Type 0)
-    (runs : RunsTable T B after says table N I limit out nxt strays Empty Stands)
+    (table : T) (N I limit mode site : ℕ) (out nxt : ℕ → ℕ → ℕ) (Empty : B → Type 0) (Stands : B → ℕ → ℕ → ℕ → Type 0)
+    (runs : RunsTable T B after says table N I limit mode site out nxt Empty Stands)
     (S : Type 0) (next : S → ℕ → ℕ → S) (start : S) (Moves : S → ℕ → ℕ → Type 0) (Good : S → Type 0)
     (good-start : Good start)
     (good-next : (s : S) (i o : ℕ) → Good s → i < I → Moves s i o → Good (next s i o))
     (settled : (s : S) (i o q : ℕ) → Good s → i < I → Moves s i o → Moves s i q → o ≡ q)
     (L : List S) (table-is : Represents S I next start Moves Good L N out nxt)
-    (Shows : B → List Step → Type 0) (shows : (b : B) (k : ℕ) (h : List Step) → Stands b k (length h) (deviations strays h) → Shows b h)
+    (Shows : B → List Step → Type 0) (shows : (b : B) (k : ℕ) (h : List Step) → Stands b k (length h) (deviations mode site h) → Shows b h)
   where
     -- the board stands at the place of the state that the run h has led to, with its figures
     record Beside (b : B) (h : List Step) : Type 0 where
@@ -64,7 +64,7 @@ module _
       low : place < N
       at : getD L place start ≡ reached S next start h
       good : Good (reached S next start h)
-      stands : Stands b place (length h) (deviations strays h)
+      stands : Stands b place (length h) (deviations mode site h)
 
     abbrev InStep : B → Option (List Step) → Type 0
     InStep b none = Empty b
@@ -118,7 +118,7 @@ module _
             low = table-is .low k i (r .low) here small;
             at = table-is .lands k i (r .low) here small ∙ ap (λ (s : S). next s i (out k i)) (r .at);
             good = good-next _ i (out k i) (r .good) small move;
-            stands = rw add-one at (runs .steps b k (length h) (deviations strays h) (r .stands) i (r .low) room small .1);
+            stands = rw add-one at (runs .steps b k (length h) (deviations mode site h) (r .stands) i (r .low) room small .1);
           },
         )
 

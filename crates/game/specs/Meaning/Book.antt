@@ -2,13 +2,14 @@
 -- It mentions no table and no board; the slices that calls are lent, of type T, are never looked at.
 -- Assumes nothing.
 use mathlib.Core.Path.{_≡_}
-use mathlib.Core.Bool.{Bool, true, false}
+use mathlib.Core.Bool.{Bool, true, false, cond}
 use mathlib.Core.Option.{Option, none, some}
 use mathlib.Core.List.{List, [], _∷_}
 use Prim.Native.Nat.{ℕ, _+_}
 use lib.Dec.{ltb}
 use lib.ListN.{length}
 use Rattle.game.specs.Meaning.History.{Step, reached}
+use Rattle.game.specs.Meaning.Proposal.{deviates}
 
 -- the calls, with the slices that load and step are lent
 pub data Call (T : Type 0) : Type 0 where
@@ -32,10 +33,10 @@ pub record Entry : Type 0 where
   pub answer : Answer
   pub run : Option (List Step)
 
--- the deviations of a run; `strays i o` is 1 where the output o is not what the input i proposes, else 0
-abbrev pub deviations : (ℕ → ℕ → ℕ) → List Step → ℕ
-deviations strays [] = 0
-deviations strays (x ∷ h) = deviations strays h + strays (x .input) (x .output)
+-- the deviations of a run, in this mode and with so many site lines
+abbrev pub deviations : ℕ → ℕ → List Step → ℕ
+deviations mode site [] = 0
+deviations mode site (x ∷ h) = deviations mode site h + cond (deviates mode site (x .input) (x .output)) 1 0
 
 -- the book of a guard with I inputs and room for `limit` steps, whose states move by `next` from `start`;
 -- `Moves s i o` says that o answers the input i at the point s
