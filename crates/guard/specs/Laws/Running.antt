@@ -62,7 +62,7 @@ head-lines d ok =
     shield y = let n : d .mode ≡ 0 → ⊥ = eqb-false (d .mode) 0 y in omega (arith, ok .mode)
 
 -- the board counts as a deviation what the sheet does
-pub deviates-alike : (d : Decoded) (i o : ℕ)
+deviates-alike : (d : Decoded) (i o : ℕ)
     → deviates (d .mode) (inputLines d - d .outputs) i o ≡ deviates (d .mode) (d .site) i o
 unfolding deviates
 deviates-alike d i o =
