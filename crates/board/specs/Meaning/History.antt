@@ -35,7 +35,7 @@ extended run (step t i) o = record { input = i; output = o } ∷ run
 extended run rewind o = []
 extended run unload o = run
 
--- the steps since the last load or rewind, of those that were not refused
+-- the steps since the last load or rewind; a call that was refused counts for nothing
 abbrev pub runOf : List Event → List Step
 runOf [] = []
 runOf (e ∷ es) = cond (eqb (e .answer .number) 0) (extended (runOf es) (e .call) (e .answer .output)) (runOf es)

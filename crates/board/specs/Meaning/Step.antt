@@ -35,8 +35,7 @@ entryFits b t input =
 unfoldable pub moved : Board → ℕ → ℕ → ℕ → Stepping
 moved b input output next =
     record {
-      board =
-          runAt b next (b .steps + 1) (b .deviations + cond (deviates (b .mode) (siteOf b) input output) 1 0);
+      board = runAt b next (b .steps + 1) (b .deviations + cond (deviates (b .mode) (siteOf b) input output) 1 0);
       answer = Output output;
     }
 

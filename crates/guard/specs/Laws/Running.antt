@@ -144,6 +144,10 @@ module _
     abbrev At : Board → ℕ → ℕ → ℕ → Type 0
     At = Stands (guardOver d h)
 
+    -- the deviations after a step from place k, e before it
+    abbrev deviated : ℕ → ℕ → ℕ → ℕ
+    deviated e k i = e + cond (deviates (d .mode) (d .site) i (outputOf d h k i)) 1 0
+
     loads : (b : Board) → live b ≡ false → (says b (load (guardOver d h)) ≡ give 0) × At (after b (load (guardOver d h))) 0 0 0
     unfolding boardOf
     loads b e =
@@ -202,13 +206,13 @@ module _
 
       steps : (i : ℕ) → k < guardCount d h → n < maxSteps → i < inputsOf d
           → (says b (step (guardOver d h) i) ≡ give (outputOf d h k i))
-          × At (after b (step (guardOver d h) i)) (nextOf d h k i) (n + 1) (e + cond (deviates (d .mode) (d .site) i (outputOf d h k i)) 1 0)
+          × At (after b (step (guardOver d h) i)) (nextOf d h k i) (n + 1) (deviated e k i)
       unfolding moved runAt
       steps i low room l =
           let q = goes-by i room l in
           let x = step-as b (guardOver d h) i _ q in (
             x .0,
-            subst (λ (c : Board). At c (nextOf d h k i) (n + 1) (e + cond (deviates (d .mode) (d .site) i (outputOf d h k i)) 1 0)) (sym (x .1))
+            subst (λ (c : Board). At c (nextOf d h k i) (n + 1) (deviated e k i)) (sym (x .1))
                 (record {
                   live = ap (λ (r : Stepping). live (r .board)) (sym q) ∙ laws.step-live b (s .live) (guardOver d h) i;
                   shows = laws.run-shows b (guardOver d h) _ _ _ (s .shows);
