@@ -11,7 +11,8 @@ use Rattle.records.specs.Meaning.GuardTable.{rowAt}
 use Rattle.board.specs.Meaning.Board.{countsOk, live, emptyBoard, runAt}
 use Rattle.tables.specs.Meaning.Loadable.{sizeOk, fieldsOk, headOk, entryOk, entriesOk, rowOk, rowsOk, loadable}
 use Rattle.board.specs.Meaning.Load.{boardOf, loadOn, loadNumber}
-use Rattle.board.specs.Meaning.Step.{proposal, deviates, outputAt, nextAt, entryFits, moved, lookedUp, stepOn, stepNumber}
+use Rattle.game.specs.Meaning.Proposal.{proposal, differs, deviates}
+use Rattle.board.specs.Meaning.Step.{outputAt, nextAt, entryFits, moved, lookedUp, stepOn, stepNumber}
 
 -- one state, always off
 abbrev off : List ℕ
@@ -36,7 +37,7 @@ pub record Examples : Type 0 where
 pub examples : Examples
 unfolding all u16At linesOk horizonOk rowLength tableLength entryAt headerIs rowAt countsOk live emptyBoard runAt
     sizeOk fieldsOk headOk entryOk entriesOk rowOk rowsOk loadable boardOf loadOn
-    proposal deviates outputAt nextAt entryFits moved lookedUp stepOn
+    proposal differs deviates outputAt nextAt entryFits moved lookedUp stepOn
 examples =
     record {
       loads = refl;

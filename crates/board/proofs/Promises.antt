@@ -11,7 +11,7 @@ use Rattle.board.specs.Meaning.Board.{live, emptyBoard, rewindOn, unload
 use Rattle.tables.specs.Meaning.Loadable.{loadable}
 use Rattle.board.specs.Meaning.Load.{loadOn, loadNumber, loadRefusal}
 use Rattle.board.specs.Meaning.Step.{outputAt, entryFits, moved, lookedUp, stepOn, stepNumber, stepOutput, stepRefusal, stepGiven}
-use Rattle.board.specs.Meaning.History.{load, step, rewind, unload}
+use Rattle.game.specs.Meaning.Book.{load, step, rewind, unload}
 use Rattle.board.specs.Laws.Calls.{empty-board}
 use Rattle.board.specs.Laws.Counting.{counted, keeps-count}
 use Rattle.board.specs.Promises.Board.{EmptyPromise, LoadPromise, StepPromise, RewindPromise, UnloadPromise}

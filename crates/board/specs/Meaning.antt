@@ -2,4 +2,5 @@
 pub mod Board
 pub mod Load
 pub mod Step
+pub mod Calls
 pub mod History

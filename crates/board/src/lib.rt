@@ -14,12 +14,13 @@ use tables::entry_ok;
 use tables::is_loadable;
 ghost use mathlib.Core.Path.{_≡_};
 ghost use mathlib.Core.Bool.{true};
-ghost use Prim.Native.Nat.{_^_, _<_, _≤_};
+ghost use Prim.Native.Nat.{_-_, _^_, _<_, _≤_};
 ghost use lib.ListN.{length};
 ghost use Rattle.records.specs.Meaning.Limits.{linesOk};
 ghost use Rattle.board.specs.Meaning.Board.{countsOk, live, runAt};
 ghost use Rattle.board.specs.Meaning.Load.{boardOf};
-ghost use Rattle.board.specs.Meaning.Step.{deviates, moved, lookedUp};
+ghost use Rattle.game.specs.Meaning.Proposal.{deviates};
+ghost use Rattle.board.specs.Meaning.Step.{moved, lookedUp};
 ghost use Rattle.board.specs.Promises.Board.{EmptyPromise, LoadPromise, StepPromise, RewindPromise, UnloadPromise};
 
 pub mod answers;
@@ -64,7 +65,7 @@ fn counts_ok(mode: u8, count: u16, place: u16, steps: u32, deviations: u32) -> b
 // Whether, in mode 1, the output is not what the input proposes.
 fn deviates(mode: u8, inputs: u8, outputs: u8, input: u8, output: u8) -> bool
     requires { ⌜ linesOk mode inputs outputs ≡ true ⌝ }
-    ensures { λ r. ⌜ r ≡ deviates mode inputs outputs input output ⌝ }
+    ensures { λ r. ⌜ r ≡ deviates mode (inputs - outputs) input output ⌝ }
 {
     if mode == 1 {
         let proposal = (input as usize) / pow2(inputs - outputs);

@@ -1,4 +1,5 @@
 -- What a reader must believe.
+pub mod Proposal
 pub mod Words
 pub mod Strategy
 pub mod Survival

@@ -4,7 +4,7 @@ use lib.Pow.{pow-pos}
 use borrow.Author.Tests.{eq-eqb}
 use Rattle.records.specs.Laws.Tests.{cases}
 use Rattle.records.specs.Laws.Limits.{Lines, lines-facts}
-use Rattle.board.specs.Meaning.Step.{proposal, deviates}
+use Rattle.game.specs.Meaning.Proposal.{proposal, differs, deviates}
 use Rattle.board.proofs.deviates.Statement.{statement}
 use Rattle.board.proofs.deviates.Tie as tie
 
@@ -21,11 +21,11 @@ div-proposal : tie.Need-div-proposal
 div-proposal c = rw (c .pow2 .ensures) (pow-pos _)
 
 returns : tie.Need-returns
-unfolding deviates proposal
+unfolding deviates differs proposal
 returns c = simp (eq-eqb _ _ (c .before .if1 .taken), c .pow2 .ensures)
 
 returns-2 : tie.Need-returns-2
-unfolding deviates proposal
+unfolding deviates differs proposal
 returns-2 c = search (cases, c .if1 .left)
 
 pub deviates-spec : {M : Type 1} → statement M

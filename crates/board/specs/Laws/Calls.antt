@@ -14,12 +14,14 @@ use Rattle.records.specs.Laws.Tests.{and-left, and-right, and-both, by-test}
 use Rattle.records.specs.Meaning.Numbers.{u16At}
 use Rattle.records.specs.Meaning.Limits.{maxSteps}
 use Rattle.records.specs.Meaning.GuardTable.{tableLength, entryAt}
+use Rattle.game.specs.Meaning.Proposal.{proposal, deviates}
+use Rattle.game.specs.Meaning.Book.{Call, load, step, rewind, unload}
 use Rattle.board.specs.Meaning.Board.{live, emptyBoard, runAt, rewindOn, unloadOn}
 use Rattle.tables.specs.Meaning.Loadable.{entryOk, loadable}
 use Rattle.tables.specs.Laws.Facts.{loadable-head, loadable-entry}
 use Rattle.board.specs.Meaning.Load.{boardOf, loadOn}
-use Rattle.board.specs.Meaning.Step.{proposal, deviates, outputAt, nextAt, entryFits, moved, lookedUp, stepOn, stepNumber, stepRefusal}
-use Rattle.board.specs.Meaning.History.{Call, load, step, rewind, unload, handed}
+use Rattle.board.specs.Meaning.Step.{outputAt, nextAt, entryFits, moved, lookedUp, stepOn, stepNumber, stepRefusal}
+use Rattle.board.specs.Meaning.Calls.{after}
 use Rattle.board.specs.Laws.Facts.{live-facts, facts-live}
 use Rattle.board.specs.declared.Board.{Board}
 use Rattle.board.specs.declared.answers.Load.{Load}
@@ -107,10 +109,9 @@ moved-shows b t i o n h = run-shows b t _ _ _ h
 -- ---- a step
 
 -- an input is the site's letter + 2^(site's lines) × proposal
-pub proposal-of : (inputs outputs site p : ℕ) → site < 2 ^ (inputs - outputs)
-    → proposal inputs outputs (site + 2 ^ (inputs - outputs) * p) ≡ p
+pub proposal-of : (site l p : ℕ) → l < 2 ^ site → proposal site (l + 2 ^ site * p) ≡ p
 unfolding proposal
-proposal-of i o s p h = rw (add-comm s (2 ^ (i - o) * p), mul-comm (2 ^ (i - o)) p) (high p (i - o) h)
+proposal-of s l p h = rw (add-comm l (2 ^ s * p), mul-comm (2 ^ s) p) (high p s h)
 
 -- a step looks at the slice's length and at the entry's two bytes, and at nothing else of the slice
 pub step-reads : (b : Board) (t u : List ℕ) (i : ℕ) → length t ≡ length u
@@ -144,9 +145,9 @@ pub data StepCase (b : Board) (t : List ℕ) (i : ℕ) : Type 0 where
   taken : b .steps < maxSteps → entryFits b t i ≡ true → stepOn b t i ≡ moved b i (outputAt b t i) (nextAt b t i) → StepCase b t i
 
 -- outside mode 1 nothing deviates
-never-deviates : (mode inputs outputs input output : ℕ) → mode ≡ 0 → deviates mode inputs outputs input output ≡ false
+never-deviates : (mode site input output : ℕ) → mode ≡ 0 → deviates mode site input output ≡ false
 unfolding deviates
-never-deviates m i o x y z = rw z
+never-deviates m s i o z = rw z
 
 flag-most : (p : Bool) → cond p 1 0 ≤ 1
 flag-most true = omega arith
@@ -189,14 +190,18 @@ module _ (b : Board) (e : live b ≡ true) where
       let f = live-facts b e in
       run-live b 0 0 0 e (omega arith) (omega arith) (omega arith) (λ z. refl)
 
+  -- one step on, to a state of its table, with a deviation more or not: in mode 0 there is none
+  on-live : (deviating : Bool) (n : ℕ) → b .steps < maxSteps → n < b .count → (b .mode ≡ 0 → deviating ≡ false)
+      → live (runAt b n (b .steps + 1) (b .deviations + cond deviating 1 0)) ≡ true
+  on-live p n s h c =
+      let f = live-facts b e in
+      run-live b n (b .steps + 1) (b .deviations + cond p 1 0) e h (omega arith) (omega (arith, flag-most p))
+      (λ z. rw (c z) (omega (arith, f .controller z)))
+
   -- a step to a state of its table leaves it live
   pub moved-live : (i o n : ℕ) → b .steps < maxSteps → n < b .count → live (moved b i o n .board) ≡ true
   unfolding moved
-  moved-live i o n s h =
-      let f = live-facts b e in
-      let d = deviates (b .mode) (b .inputs) (b .outputs) i o in
-      run-live b n (b .steps + 1) (b .deviations + cond d 1 0) e h (omega arith) (omega (arith, flag-most d))
-      (λ z. rw (never-deviates (b .mode) (b .inputs) (b .outputs) i o z) (omega (arith, f .controller z)))
+  moved-live i o n s h = on-live _ n s h (never-deviates _ _ _ _)
 
   -- every step, with any slice and input, leaves it live
   pub step-live : (t : List ℕ) (i : ℕ) → live (stepOn b t i .board) ≡ true
@@ -207,7 +212,7 @@ module _ (b : Board) (e : live b ≡ true) where
       ]
 
   -- only unload empties it
-  pub stays-live : (c : Call) → (c ≡ unload → ⊥) → live (handed b c) ≡ true
+  pub stays-live : (c : Call (List ℕ)) → (c ≡ unload → ⊥) → live (after b c) ≡ true
   stays-live (load t) n = ap (λ (r : Loading). live (r .board)) (load-occupied t) ∙ e
   stays-live (step t i) n = step-live t i
   stays-live rewind n = ap (λ (r : Changing). live (r .board)) rewind-live ∙ rewound-live

@@ -1,12 +1,13 @@
 -- A step of the board (document 01, 'The board'): what it looks at, and what it hands back.
 -- Assumes nothing.
-use mathlib.Core.Bool.{Bool, cond, not, _&&_}
+use mathlib.Core.Bool.{Bool, cond, _&&_}
 use mathlib.Core.List.{List}
-use Prim.Native.Nat.{ℕ, _+_, _-_, _/_, _^_}
+use Prim.Native.Nat.{ℕ, _+_, _-_, _^_}
 use lib.Dec.{ltb, leb, eqb}
 use lib.ListN.{length, getD}
 use Rattle.records.specs.Meaning.Limits.{maxSteps}
 use Rattle.records.specs.Meaning.GuardTable.{tableLength, entryAt}
+use Rattle.game.specs.Meaning.Proposal.{deviates}
 use Rattle.board.specs.Meaning.Board.{live, runAt}
 use Rattle.tables.specs.Meaning.Loadable.{entryOk}
 use Rattle.board.specs.declared.Board.{Board}
@@ -14,13 +15,9 @@ use Rattle.board.specs.declared.answers.Step.{Step}
 use Rattle.board.specs.declared.answers.Step.the-variants.{Output, Empty, Spent, BadInput, BadTable}
 use Rattle.board.specs.declared.answers.Stepping.{Stepping}
 
--- what a shield's input proposes: its lines above the site's
-unfoldable pub proposal : ℕ → ℕ → ℕ → ℕ
-proposal inputs outputs input = input / 2 ^ (inputs - outputs)
-
--- in mode 1, the output is not the proposal
-unfoldable pub deviates : ℕ → ℕ → ℕ → ℕ → ℕ → Bool
-deviates mode inputs outputs input output = eqb mode 1 && not (eqb output (proposal inputs outputs input))
+-- the site lines of a shield's board: its inputs that are not the proposal's
+abbrev pub siteOf : Board → ℕ
+siteOf b = b .inputs - b .outputs
 
 -- the entry that a step reads: its output, and its next state
 unfoldable pub outputAt : Board → List ℕ → ℕ → ℕ
@@ -38,8 +35,7 @@ entryFits b t input =
 unfoldable pub moved : Board → ℕ → ℕ → ℕ → Stepping
 moved b input output next =
     record {
-      board =
-          runAt b next (b .steps + 1) (b .deviations + cond (deviates (b .mode) (b .inputs) (b .outputs) input output) 1 0);
+      board = runAt b next (b .steps + 1) (b .deviations + cond (deviates (b .mode) (siteOf b) input output) 1 0);
       answer = Output output;
     }
 

@@ -11,7 +11,7 @@ use lib.Dec.{ltb}
 use lib.ListN.{length, getD}
 use borrow.Author.Tests.{ltb-true, ltb-false}
 use Rattle.game.specs.Meaning.History.{Step, reached}
-use Rattle.game.specs.Meaning.Book.{Call, load, step, rewind, unload, Answer, refuse, Entry, deviations, Steps, Writes, Keeps, holding, Lent}
+use Rattle.game.specs.Meaning.Book.{Call, load, step, rewind, unload, Answer, refuse, Book, bookOf, emptyBook, Entry, deviations, Steps, Writes, Keeps, holding, Lent}
 use Rattle.game.specs.Laws.Answers.{holds, writes-holding, keeps-only}
 use Rattle.game.specs.Meaning.Machine.{Held, replies, Shown, Agrees}
 use Rattle.game.specs.Model.Machine.{RunsTable}
@@ -49,14 +49,14 @@ lent-first table h unload cs l = (tt, l)
 
 module _
     (T B : Type 0) (after : B → Call T → B) (says : B → Call T → Answer)
-    (table : T) (N I limit : ℕ) (out nxt strays : ℕ → ℕ → ℕ) (Empty : B → Type 0) (Stands : B → ℕ → ℕ → ℕ → Type 0)
-    (runs : RunsTable T B after says table N I limit out nxt strays Empty Stands)
+    (table : T) (N I limit mode site : ℕ) (out nxt : ℕ → ℕ → ℕ) (Empty : B → Type 0) (Stands : B → ℕ → ℕ → ℕ → Type 0)
+    (runs : RunsTable T B after says table N I limit mode site out nxt Empty Stands)
     (S : Type 0) (next : S → ℕ → ℕ → S) (start : S) (Moves : S → ℕ → ℕ → Type 0) (Good : S → Type 0)
     (good-start : Good start)
     (good-next : (s : S) (i o : ℕ) → Good s → i < I → Moves s i o → Good (next s i o))
     (settled : (s : S) (i o q : ℕ) → Good s → i < I → Moves s i o → Moves s i q → o ≡ q)
     (L : List S) (table-is : Represents S I next start Moves Good L N out nxt)
-    (Shows : B → List Step → Type 0) (shows : (b : B) (k : ℕ) (h : List Step) → Stands b k (length h) (deviations strays h) → Shows b h)
+    (Shows : B → List Step → Type 0) (shows : (b : B) (k : ℕ) (h : List Step) → Stands b k (length h) (deviations mode site h) → Shows b h)
   where
     -- the board stands at the place of the state that the run h has led to, with its figures
     record Beside (b : B) (h : List Step) : Type 0 where
@@ -64,43 +64,43 @@ module _
       low : place < N
       at : getD L place start ≡ reached S next start h
       good : Good (reached S next start h)
-      stands : Stands b place (length h) (deviations strays h)
+      stands : Stands b place (length h) (deviations mode site h)
 
     abbrev InStep : B → Option (List Step) → Type 0
     InStep b none = Empty b
     InStep b (some h) = Beside b h
 
     -- the board takes the call as the book does
-    abbrev Together : B → Option (List Step) → Call T → Type 0
+    abbrev Together : B → Book → Call T → Type 0
     Together b p c =
-        (q : Option (List Step)) × Writes T S I limit next start Moves p c (says b c) q × InStep (after b c) q
+        (q : Book) × Writes T S I limit next start Moves p c (says b c) q × InStep (after b c) (q .run)
 
     fresh : (b : B) → Stands b 0 0 0 → Beside b []
     fresh b u =
         record { place = 0; low = omega (arith, table-is .size, table-is .some); at = table-is .first; good = good-start; stands = u }
 
     -- a call that leaves board and book as they are
-    unchanged : (b : B) (p : Option (List Step)) (c : Call T) (a : Answer)
-        → Writes T S I limit next start Moves p c a p → (says b c ≡ a) × (after b c ≡ b) → InStep b p → Together b p c
+    unchanged : (b : B) (p : Book) (c : Call T) (a : Answer)
+        → Writes T S I limit next start Moves p c a p → (says b c ≡ a) × (after b c ≡ b) → InStep b (p .run) → Together b p c
     unchanged b p c a w e r = (
       p,
       subst (λ (x : Answer). Writes T S I limit next start Moves p c x p) (sym (e .0)) w,
-      subst (λ (x : B). InStep x p) (sym (e .1)) r,
+      subst (λ (x : B). InStep x (p .run)) (sym (e .1)) r,
     )
 
     -- a call of a board that holds no run
-    empty-call : (b : B) (c : Call T) → Empty b → Suits table false c → Together b none c
+    empty-call : (b : B) (c : Call T) → Empty b → Suits table false c → Together b emptyBook c
     empty-call b (load t) e s =
         let x = runs .loads b e in
-        subst (λ (u : T). Together b none (load u)) (sym s) (some [], (x .0, refl), fresh (after b (load table)) (x .1))
+        subst (λ (u : T). Together b emptyBook (load u)) (sym s) (bookOf [], (x .0, refl), fresh (after b (load table)) (x .1))
     empty-call b (step t i) e s =
-        unchanged b none (step t i) (refuse 20) (refl, refl)
+        unchanged b emptyBook (step t i) (refuse 20) (refl, refl)
         (runs .empties b e (step t i) (λ u q. let z : _≡_ {A = ℕ} 0 1 = cc in omega arith)) e
     empty-call b rewind e s =
-        unchanged b none rewind (refuse 20) (refl, refl)
+        unchanged b emptyBook rewind (refuse 20) (refl, refl)
         (runs .empties b e rewind (λ u q. let z : _≡_ {A = ℕ} 0 1 = cc in omega arith)) e
     empty-call b unload e s =
-        unchanged b none unload (refuse 20) (refl, refl)
+        unchanged b emptyBook unload (refuse 20) (refl, refl)
         (runs .empties b e unload (λ u q. let z : _≡_ {A = ℕ} 0 1 = cc in omega arith)) e
 
     -- the board after a step stands beside the run with that step
@@ -118,24 +118,24 @@ module _
             low = table-is .low k i (r .low) here small;
             at = table-is .lands k i (r .low) here small ∙ ap (λ (s : S). next s i (out k i)) (r .at);
             good = good-next _ i (out k i) (r .good) small move;
-            stands = rw add-one at (runs .steps b k (length h) (deviations strays h) (r .stands) i (r .low) room small .1);
+            stands = rw add-one at (runs .steps b k (length h) (deviations mode site h) (r .stands) i (r .low) room small .1);
           },
         )
 
     -- a step of a board that holds a run: has it room for an input, and is the input one?
     step-call : (room letter : Bool) (b : B) (h : List Step) (i : ℕ) → ltb (length h) limit ≡ room → ltb i I ≡ letter → Beside b h
-        → (q : Option (List Step)) × Steps T S I limit next start Moves room letter h i (says b (step table i)) q
-        × InStep (after b (step table i)) q
+        → (q : Book) × Steps T S I limit next start Moves room letter (bookOf h) h i (says b (step table i)) q
+        × InStep (after b (step table i)) (q .run)
     step-call false letter b h i u v r =
         let x = runs .spent b (r .place) (length h) _ (r .stands) i (ltb-false _ _ u) in
-        (some h, (x .0, refl), subst (λ (y : B). Beside y h) (sym (x .1)) r)
+        (bookOf h, (x .0, refl), subst (λ (y : B). Beside y h) (sym (x .1)) r)
     step-call true false b h i u v r =
         let x = runs .stranger b (r .place) (length h) _ (r .stands) i (ltb-true _ _ u) (ltb-false _ _ v) in
-        (some h, (x .0, refl), subst (λ (y : B). Beside y h) (sym (x .1)) r)
+        (bookOf h, (x .0, refl), subst (λ (y : B). Beside y h) (sym (x .1)) r)
     step-call true true b h i u v r =
         let k : ℕ = r .place in
         let x = stepped b h i r (ltb-true _ _ u) (ltb-true _ _ v) in (
-          some (record { input = i; output = out k i } ∷ h),
+          bookOf (record { input = i; output = out k i } ∷ h),
           (
             out k i,
             x .0,
@@ -146,16 +146,16 @@ module _
         )
 
     -- a call of a board that holds one
-    held-call : (b : B) (h : List Step) (c : Call T) → Beside b h → Suits table true c → Together b (some h) c
+    held-call : (b : B) (h : List Step) (c : Call T) → Beside b h → Suits table true c → Together b (bookOf h) c
     held-call b h (load t) r s =
-        unchanged b (some h) (load t) (refuse 21) (refl, refl) (runs .occupied b _ _ _ (r .stands) t) r
+        unchanged b (bookOf h) (load t) (refuse 21) (refl, refl) (runs .occupied b _ _ _ (r .stands) t) r
     held-call b h (step t i) r s =
-        subst (λ (u : T). Together b (some h) (step u i)) (sym s) (step-call _ _ b h i refl refl r)
+        subst (λ (u : T). Together b (bookOf h) (step u i)) (sym s) (step-call _ _ b h i refl refl r)
     held-call b h rewind r s =
-        let x = runs .rewinds b _ _ _ (r .stands) in (some [], (x .0, refl), fresh (after b rewind) (x .1))
-    held-call b h unload r s = let x = runs .unloads b _ _ _ (r .stands) in (none, (x .0, refl), x .1)
+        let x = runs .rewinds b _ _ _ (r .stands) in (bookOf [], (x .0, refl), fresh (after b rewind) (x .1))
+    held-call b h unload r s = let x = runs .unloads b _ _ _ (r .stands) in (emptyBook, (x .0, refl), x .1)
 
-    together : (b : B) (p : Option (List Step)) (c : Call T) → InStep b p → Suits table (holds p) c → Together b p c
+    together : (b : B) (r : Option (List Step)) (c : Call T) → InStep b r → Suits table (holds r) c → Together b (record { run = r }) c
     together b none c r s = empty-call b c r s
     together b (some h) c r s = held-call b h c r s
 
@@ -164,36 +164,36 @@ module _
     shown b (some h) r = shows b (r .place) h (r .stands)
 
     -- a list of calls: how the book is kept, and what the board says and shows
-    record Kept (b : B) (p : Option (List Step)) (cs : List (Call T)) : Type 0 where
+    record Kept (b : B) (p : Book) (cs : List (Call T)) : Type 0 where
       entries : List Entry
       kept : Keeps T S I limit next start Moves p cs entries
       answers : replies T B after says b cs ≡ map (λ (e : Entry). e .answer) entries
       shows-runs : Shown T B after says Shows b cs entries
 
-    keep : (b : B) (p : Option (List Step)) (cs : List (Call T)) → InStep b p → Lent table (holds p) cs → Kept b p cs
+    keep : (b : B) (p : Book) (cs : List (Call T)) → InStep b (p .run) → Lent table (holds (p .run)) cs → Kept b p cs
     keep b p [] r l = record { entries = []; kept = tt; answers = refl; shows-runs = tt }
     keep b p (c ∷ cs) r l =
-        let m = lent-first table (holds p) c cs l in
-        let x : Together b p c = together b p c r (m .0) in
-        let lent : Lent table (holds (x .0)) cs =
-        subst (λ (h : Bool). Lent table h cs) (sym (writes-holding T S I limit next start Moves p c _ (x .0) (x .1))) (m .1) in
+        let m = lent-first table (holds (p .run)) c cs l in
+        let x : Together b p c = together b (p .run) c r (m .0) in
+        let lent : Lent table (holds (x .0 .run)) cs =
+        subst (λ (h : Bool). Lent table h cs) (sym (writes-holding T S I limit next start Moves (p .run) c _ (x .0) (x .1))) (m .1) in
         let rest : Kept (after b c) (x .0) cs = keep (after b c) (x .0) cs (x .2) lent in
         record {
-          entries = record { answer = says b c; run = x .0 } ∷ rest .entries;
+          entries = record { answer = says b c; book = x .0 } ∷ rest .entries;
           kept = (x .1, rest .kept);
           answers = ap {B = List Answer} (λ (l : List Answer). says b c ∷ l) (rest .answers);
-          shows-runs = (shown (after b c) (x .0) (x .2), rest .shows-runs);
+          shows-runs = (shown (after b c) (x .0 .run) (x .2), rest .shows-runs);
         }
 
     -- from any board that counts as empty, over any calls that are lent the table where it is read
     pub agrees : (b : B) (cs : List (Call T)) → Empty b → Lent table false cs
         → Agrees T B after says S I limit next start Moves Shows b cs
     agrees b cs e l =
-        let k : Kept b none cs = keep b none cs e l in
+        let k : Kept b emptyBook cs = keep b emptyBook cs e l in
         record {
           entries = k .entries;
           kept = k .kept;
-          only = λ es u. keeps-only T S I limit next start Moves Good good-start good-next settled none cs es (k .entries) tt u (k .kept);
+          only = λ es u. keeps-only T S I limit next start Moves Good good-start good-next settled emptyBook cs es (k .entries) tt u (k .kept);
           answers = k .answers;
           shows = k .shows-runs;
         }

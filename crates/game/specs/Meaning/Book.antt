@@ -2,13 +2,14 @@
 -- It mentions no table and no board; the slices that calls are lent, of type T, are never looked at.
 -- Assumes nothing.
 use mathlib.Core.Path.{_≡_}
-use mathlib.Core.Bool.{Bool, true, false}
+use mathlib.Core.Bool.{Bool, true, false, cond}
 use mathlib.Core.Option.{Option, none, some}
 use mathlib.Core.List.{List, [], _∷_}
 use Prim.Native.Nat.{ℕ, _+_}
 use lib.Dec.{ltb}
 use lib.ListN.{length}
 use Rattle.game.specs.Meaning.History.{Step, reached}
+use Rattle.game.specs.Meaning.Proposal.{deviates}
 
 -- the calls, with the slices that load and step are lent
 pub data Call (T : Type 0) : Type 0 where
@@ -27,43 +28,57 @@ refuse n = record { number = n; output = 0 }
 abbrev pub give : ℕ → Answer
 give o = record { number = 0; output = o }
 
--- what stands in the book after a call: the answer to it, and the run that the book then holds, if any
-pub record Entry : Type 0 where
-  pub answer : Answer
+-- what the book holds: a run, or none while it is empty
+pub record Book : Type 0 where
   pub run : Option (List Step)
 
--- the deviations of a run; `strays i o` is 1 where the output o is not what the input i proposes, else 0
-abbrev pub deviations : (ℕ → ℕ → ℕ) → List Step → ℕ
-deviations strays [] = 0
-deviations strays (x ∷ h) = deviations strays h + strays (x .input) (x .output)
+abbrev pub emptyBook : Book
+emptyBook = record { run = none }
+
+abbrev pub bookOf : List Step → Book
+bookOf h = record { run = some h }
+
+-- what a call leaves: the answer to it, and the book
+pub record Entry : Type 0 where
+  pub answer : Answer
+  pub book : Book
+
+-- the deviations of a run, in this mode and with so many site lines
+abbrev pub deviations : ℕ → ℕ → List Step → ℕ
+deviations mode site [] = 0
+deviations mode site (x ∷ h) = deviations mode site h + cond (deviates mode site (x .input) (x .output)) 1 0
 
 -- the book of a guard with I inputs and room for `limit` steps, whose states move by `next` from `start`;
 -- `Moves s i o` says that o answers the input i at the point s
 module _ (T S : Type 0) (I limit : ℕ) (next : S → ℕ → ℕ → S) (start : S) (Moves : S → ℕ → ℕ → Type 0) where
-  -- a step of a book that holds the run h: has it room for an input, and is the input one?
-  abbrev pub Steps : Bool → Bool → List Step → ℕ → Answer → Option (List Step) → Type 0
-  Steps false letter h i a q = (a ≡ refuse 22) × (q ≡ some h)
-  Steps true false h i a q = (a ≡ refuse 12) × (q ≡ some h)
-  Steps true true h i a q =
-      (o : ℕ) × Moves (reached S next start h) i o × (a ≡ give o) × (q ≡ some (record { input = i; output = o } ∷ h))
+  -- a step of the book p, which holds the run h: has it room for an input, and is the input one?
+  abbrev pub Steps : Bool → Bool → Book → List Step → ℕ → Answer → Book → Type 0
+  Steps false letter p h i a q = (a ≡ refuse 22) × (q ≡ p)
+  Steps true false p h i a q = (a ≡ refuse 12) × (q ≡ p)
+  Steps true true p h i a q =
+      (o : ℕ) × Moves (reached S next start h) i o × (a ≡ give o) × (q ≡ bookOf (record { input = i; output = o } ∷ h))
 
-  -- the book with the run p takes the call, answers a, and then holds q
-  abbrev pub Writes : Option (List Step) → Call T → Answer → Option (List Step) → Type 0
-  Writes none (load t) a q = (a ≡ give 0) × (q ≡ some [])
-  Writes none (step t i) a q = (a ≡ refuse 20) × (q ≡ none)
-  Writes none rewind a q = (a ≡ refuse 20) × (q ≡ none)
-  Writes none unload a q = (a ≡ refuse 20) × (q ≡ none)
-  Writes (some h) (load t) a q = (a ≡ refuse 21) × (q ≡ some h)
-  Writes (some h) (step t i) a q = Steps (ltb (length h) limit) (ltb i I) h i a q
-  Writes (some h) rewind a q = (a ≡ give 0) × (q ≡ some [])
-  Writes (some h) unload a q = (a ≡ give 0) × (q ≡ none)
+  -- a call of the book p, which holds this run, if any
+  abbrev pub Takes : Book → Option (List Step) → Call T → Answer → Book → Type 0
+  Takes p none (load t) a q = (a ≡ give 0) × (q ≡ bookOf [])
+  Takes p none (step t i) a q = (a ≡ refuse 20) × (q ≡ p)
+  Takes p none rewind a q = (a ≡ refuse 20) × (q ≡ p)
+  Takes p none unload a q = (a ≡ refuse 20) × (q ≡ p)
+  Takes p (some h) (load t) a q = (a ≡ refuse 21) × (q ≡ p)
+  Takes p (some h) (step t i) a q = Steps (ltb (length h) limit) (ltb i I) p h i a q
+  Takes p (some h) rewind a q = (a ≡ give 0) × (q ≡ bookOf [])
+  Takes p (some h) unload a q = (a ≡ give 0) × (q ≡ emptyBook)
 
-  -- the entries es, one for each call of cs, keep the book that begins with the run p
-  abbrev pub Keeps : Option (List Step) → List (Call T) → List Entry → Type 0
+  -- the book p takes the call, answers a, and is then q
+  abbrev pub Writes : Book → Call T → Answer → Book → Type 0
+  Writes p c a q = Takes p (p .run) c a q
+
+  -- the entries es, one for each call of cs, keep the book that begins as p
+  abbrev pub Keeps : Book → List (Call T) → List Entry → Type 0
   Keeps p [] [] = Unit {0}
   Keeps p [] (e ∷ es) = ⊥
   Keeps p (c ∷ cs) [] = ⊥
-  Keeps p (c ∷ cs) (e ∷ es) = Writes p c (e .answer) (e .run) × Keeps (e .run) cs es
+  Keeps p (c ∷ cs) (e ∷ es) = Writes p c (e .answer) (e .book) × Keeps (e .book) cs es
 
 -- whether the book holds a run is a function of the calls alone
 abbrev pub holding : {T : Type 0} → Bool → Call T → Bool

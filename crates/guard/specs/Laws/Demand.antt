@@ -12,8 +12,9 @@ use Rattle.game.specs.Laws.Simulation.{agrees}
 use Rattle.solve.specs.Meaning.Allowed.{Kept}
 use Rattle.solve.specs.Laws.Grounds.{start-in}
 use Rattle.board.specs.Meaning.Board.{live}
+use Rattle.board.specs.Meaning.Calls.{after, says}
 use Rattle.board.specs.declared.Board.{Board}
-use Rattle.guard.specs.Meaning.Guard.{Move, strays, after, says, Shows, Faithful}
+use Rattle.guard.specs.Meaning.Guard.{Move, Shows, Faithful}
 use Rattle.plan.specs.Model.Table.{guardCount, outputOf, nextOf, guardOver}
 use Rattle.plan.specs.Laws.Reaching.{Winning}
 use Rattle.guard.specs.Laws.Representing.{tuplesOf, start-winning, move-winning, move-is, represents}
@@ -24,7 +25,7 @@ pub faithful : (d : Decoded) → SheetOk d → stateCount d ≤ maxStates → Ke
     → (h : ℕ) → horizonOk (inputLines d) h ≡ true → Faithful d h (guardOver d h)
 faithful d ok fits realizable h far b e cs lent =
     let start = start-in d fits .1 realizable in
-    agrees (List ℕ) Board after says (guardOver d h) (guardCount d h) (inputsOf d) maxSteps (outputOf d h) (nextOf d h) (strays d)
+    agrees (List ℕ) Board after says (guardOver d h) (guardCount d h) (inputsOf d) maxSteps (d .mode) (d .site) (outputOf d h) (nextOf d h)
     (λ x. live x ≡ false) (Stands (guardOver d h)) (runs d fits start (ok .head) h far)
     (List ℕ) (advance d) (firstTuple d) (Move d h) (Winning d) (start-winning d fits realizable h)
     (move-winning d fits realizable h (ok .head))

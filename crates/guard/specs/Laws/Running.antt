@@ -13,19 +13,19 @@ use Rattle.records.specs.Meaning.Limits.{maxStates, maxSteps, linesOk, horizonO
 use Rattle.records.specs.Laws.GuardTable.{HeadReads, table-head}
 use Rattle.sheet.specs.Meaning.Decoded as decoded
 use Rattle.sheet.specs.Meaning.Decoded.{Decoded, HeadOk, inputLines}
-use Rattle.product.specs.Meaning.Step.{inputsOf, proposal, differs}
+use Rattle.product.specs.Meaning.Step.{inputsOf}
 use Rattle.product.specs.Model.Numbered.{stateCount}
+use Rattle.game.specs.Meaning.Proposal.{deviates}
 use Rattle.game.specs.Meaning.History as history
 use Rattle.game.specs.Meaning.Book.{Call, load, step, rewind, unload, give, refuse, deviations}
 use Rattle.game.specs.Model.Machine.{RunsTable}
 use Rattle.rounds.specs.Model.Rounds.{isIn}
 use Rattle.solve.specs.Model.Steps.{droppedOf}
-use Rattle.board.specs.Meaning.Board.{live, runAt, rewindOn, unloadOn, changeNumber}
+use Rattle.board.specs.Meaning.Board.{live, runAt, rewindOn, unloadOn}
 use Rattle.tables.specs.Meaning.Loadable.{loadable}
-use Rattle.board.specs.Meaning.Load.{boardOf, loadOn, loadNumber}
-use Rattle.board.specs.Meaning.Step as board
-use Rattle.board.specs.Meaning.Step.{deviates, moved, stepOn, stepNumber, stepOutput}
-use Rattle.board.specs.Meaning.History as calls
+use Rattle.board.specs.Meaning.Load.{boardOf, loadOn}
+use Rattle.board.specs.Meaning.Step.{moved, stepOn}
+use Rattle.board.specs.Meaning.Calls.{loadSays, stepSays, changeSays, after, says}
 use Rattle.board.specs.Laws.Calls as laws
 use Rattle.tables.specs.Laws.Guard.{guard-loadable}
 use Rattle.board.specs.Laws.Guard.{guard-step}
@@ -33,7 +33,7 @@ use Rattle.board.specs.declared.Board.{Board}
 use Rattle.board.specs.declared.answers.Loading.{Loading}
 use Rattle.board.specs.declared.answers.Stepping.{Stepping}
 use Rattle.board.specs.declared.answers.Changing.{Changing}
-use Rattle.guard.specs.Meaning.Guard.{strays, after, says, Shows}
+use Rattle.guard.specs.Meaning.Guard.{Shows}
 use Rattle.plan.specs.Model.Table.{guardCount, outputOf, nextOf, guardOver}
 use Rattle.plan.specs.Laws.Reaching.{guard-some, guard-fits, next-low, output-low}
 
@@ -62,10 +62,10 @@ head-lines d ok =
     shield y = let n : d .mode ≡ 0 → ⊥ = eqb-false (d .mode) 0 y in omega (arith, ok .mode)
 
 -- the board counts as a deviation what the sheet does
-pub deviates-strays : (d : Decoded) (i o : ℕ)
-    → cond (deviates (d .mode) (inputLines d) (d .outputs) i o) 1 0 ≡ strays d i o
-unfolding deviates strays differs proposal board.proposal
-deviates-strays d i o =
+deviates-alike : (d : Decoded) (i o : ℕ)
+    → deviates (d .mode) (inputLines d - d .outputs) i o ≡ deviates (d .mode) (d .site) i o
+unfolding deviates
+deviates-alike d i o =
     by-test (eqb (d .mode) 1)
     (λ y.
     let site : inputLines d - d .outputs ≡ d .site = omega (arith, shield-lines d (eqb-true (d .mode) 1 y)) in
@@ -85,37 +85,18 @@ pub record Stands (table : List ℕ) (b : Board) (k n e : ℕ) : Type 0 where
 -- ---- what a call answers and hands back, from the board's result
 
 load-as : (b : Board) (t : List ℕ) (r : Loading) → loadOn b t ≡ r
-    → (says b (load t) ≡ record { number = loadNumber (r .answer); output = 0 }) × (after b (load t) ≡ r .board)
-unfolding says after
-load-as b t r q = (
-  ap (λ (x : Loading). record { number = loadNumber (x .answer); output = 0 }) q,
-  ap (λ (x : Loading). x .board) q,
-)
+    → (says b (load t) ≡ loadSays r) × (after b (load t) ≡ r .board)
+load-as b t r q = (ap loadSays q, ap (λ (x : Loading). x .board) q)
 
 step-as : (b : Board) (t : List ℕ) (i : ℕ) (r : Stepping) → stepOn b t i ≡ r
-    → (says b (step t i) ≡ record { number = stepNumber (r .answer); output = stepOutput (r .answer) })
-    × (after b (step t i) ≡ r .board)
-unfolding says after
-step-as b t i r q = (
-  ap (λ (x : Stepping). record { number = stepNumber (x .answer); output = stepOutput (x .answer) }) q,
-  ap (λ (x : Stepping). x .board) q,
-)
+    → (says b (step t i) ≡ stepSays r) × (after b (step t i) ≡ r .board)
+step-as b t i r q = (ap stepSays q, ap (λ (x : Stepping). x .board) q)
 
-rewind-as : (b : Board) (r : Changing) → rewindOn b ≡ r
-    → (says b rewind ≡ record { number = changeNumber (r .answer); output = 0 }) × (after b rewind ≡ r .board)
-unfolding says after
-rewind-as b r q = (
-  ap (λ (x : Changing). record { number = changeNumber (x .answer); output = 0 }) q,
-  ap (λ (x : Changing). x .board) q,
-)
+rewind-as : (b : Board) (r : Changing) → rewindOn b ≡ r → (says b rewind ≡ changeSays r) × (after b rewind ≡ r .board)
+rewind-as b r q = (ap changeSays q, ap (λ (x : Changing). x .board) q)
 
-unload-as : (b : Board) (r : Changing) → unloadOn b ≡ r
-    → (says b unload ≡ record { number = changeNumber (r .answer); output = 0 }) × (after b unload ≡ r .board)
-unfolding says after
-unload-as b r q = (
-  ap (λ (x : Changing). record { number = changeNumber (x .answer); output = 0 }) q,
-  ap (λ (x : Changing). x .board) q,
-)
+unload-as : (b : Board) (r : Changing) → unloadOn b ≡ r → (says b unload ≡ changeSays r) × (after b unload ≡ r .board)
+unload-as b r q = (ap changeSays q, ap (λ (x : Changing). x .board) q)
 
 -- a board that counts as empty refuses all but a load
 empties : (b : Board) → live b ≡ false → (c : Call (List ℕ)) → ((t : List ℕ) → c ≡ load t → ⊥)
@@ -127,8 +108,8 @@ empties b e unload n = unload-as b _ (laws.unload-empty b e)
 
 -- one step more of the same sheet
 deviated-as : (d : Decoded) (mode inputs outputs before e i o : ℕ) → mode ≡ d .mode → inputs ≡ inputLines d → outputs ≡ d .outputs
-    → before ≡ e → before + cond (deviates mode inputs outputs i o) 1 0 ≡ e + strays d i o
-deviated-as d mode inputs outputs before e i o m n p q = rw (m, n, p, q, deviates-strays d i o)
+    → before ≡ e → before + cond (deviates mode (inputs - outputs) i o) 1 0 ≡ e + cond (deviates (d .mode) (d .site) i o) 1 0
+deviated-as d mode inputs outputs before e i o m n p q = rw (m, n, p, q, deviates-alike d i o)
 
 -- ---- the guard's table
 
@@ -150,7 +131,7 @@ module _
 
     -- a board that stands in a run shows the sheet and the run
     pub stands-shows : (b : Board) (k : ℕ) (run : List history.Step)
-        → Stands (guardOver d h) b k (length run) (deviations (strays d) run) → Shows d b run
+        → Stands (guardOver d h) b k (length run) (deviations (d .mode) (d .site) run) → Shows d b run
     stands-shows b k run s =
         record {
           mode = s .shows .mode ∙ table-reads .mode-is;
@@ -162,6 +143,10 @@ module _
 
     abbrev At : Board → ℕ → ℕ → ℕ → Type 0
     At = Stands (guardOver d h)
+
+    -- the deviations after a step from place k, e before it
+    abbrev deviated : ℕ → ℕ → ℕ → ℕ
+    deviated e k i = e + cond (deviates (d .mode) (d .site) i (outputOf d h k i)) 1 0
 
     loads : (b : Board) → live b ≡ false → (says b (load (guardOver d h)) ≡ give 0) × At (after b (load (guardOver d h))) 0 0 0
     unfolding boardOf
@@ -188,7 +173,7 @@ module _
             subst (λ (c : Board). At c 0 0 0) (sym (x .1))
                 (record {
                   live = ap (λ (r : Changing). live (r .board)) (sym q)
-                      ∙ laws.stays-live b (s .live) calls.rewind (λ z. let w : _≡_ {A = ℕ} 0 1 = cc in omega arith);
+                      ∙ laws.stays-live b (s .live) rewind (λ z. let w : _≡_ {A = ℕ} 0 1 = cc in omega arith);
                   shows = laws.run-shows b (guardOver d h) 0 0 0 (s .shows);
                   place = refl;
                   steps = refl;
@@ -221,13 +206,13 @@ module _
 
       steps : (i : ℕ) → k < guardCount d h → n < maxSteps → i < inputsOf d
           → (says b (step (guardOver d h) i) ≡ give (outputOf d h k i))
-          × At (after b (step (guardOver d h) i)) (nextOf d h k i) (n + 1) (e + strays d i (outputOf d h k i))
+          × At (after b (step (guardOver d h) i)) (nextOf d h k i) (n + 1) (deviated e k i)
       unfolding moved runAt
       steps i low room l =
           let q = goes-by i room l in
           let x = step-as b (guardOver d h) i _ q in (
             x .0,
-            subst (λ (c : Board). At c (nextOf d h k i) (n + 1) (e + strays d i (outputOf d h k i))) (sym (x .1))
+            subst (λ (c : Board). At c (nextOf d h k i) (n + 1) (deviated e k i)) (sym (x .1))
                 (record {
                   live = ap (λ (r : Stepping). live (r .board)) (sym q) ∙ laws.step-live b (s .live) (guardOver d h) i;
                   shows = laws.run-shows b (guardOver d h) _ _ _ (s .shows);
@@ -239,8 +224,8 @@ module _
           )
 
     -- the board runs it
-    pub runs : RunsTable (List ℕ) Board after says (guardOver d h) (guardCount d h) (inputsOf d) maxSteps
-        (outputOf d h) (nextOf d h) (strays d) (λ b. live b ≡ false) (Stands (guardOver d h))
+    pub runs : RunsTable (List ℕ) Board after says (guardOver d h) (guardCount d h) (inputsOf d) maxSteps (d .mode) (d .site)
+        (outputOf d h) (nextOf d h) (λ b. live b ≡ false) (Stands (guardOver d h))
     runs =
         record {
           loads = loads;

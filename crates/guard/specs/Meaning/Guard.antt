@@ -2,24 +2,22 @@
 -- are the meaning layer's; the board is the one whose calls crate `board` promises to be these definitions.
 -- Assumes nothing.
 use mathlib.Core.Path.{_≡_}
-use mathlib.Core.Bool.{false, cond, _&&_}
+use mathlib.Core.Bool.{false}
 use mathlib.Core.List.{List}
 use Prim.Native.Nat.{ℕ, _<_}
-use lib.Dec.{eqb}
 use lib.ListN.{length}
 use Rattle.records.specs.Meaning.Limits.{maxSteps}
 use Rattle.game.specs.Meaning.FirstMet.{FirstMet}
 use Rattle.game.specs.Meaning.History.{Step}
 use Rattle.game.specs.Meaning.Plans as plans
-use Rattle.game.specs.Meaning.Book.{Call, load, step, rewind, unload, Answer, deviations, Lent}
+use Rattle.game.specs.Meaning.Book.{Call, deviations, Lent}
 use Rattle.game.specs.Meaning.Machine.{Agrees}
 use Rattle.sheet.specs.Meaning.Decoded.{Decoded, inputLines}
-use Rattle.product.specs.Meaning.Step.{inputsOf, outputsOf, advance, reward, differs, firstTuple}
+use Rattle.product.specs.Meaning.Step.{inputsOf, outputsOf, advance, reward, firstTuple}
 use Rattle.values.specs.Meaning.Order.{Higher}
 use Rattle.solve.specs.Meaning.Allowed.{Allowed}
-use Rattle.board.specs.Meaning.Board.{live, rewindOn, unloadOn, changeNumber}
-use Rattle.board.specs.Meaning.Load.{loadOn, loadNumber}
-use Rattle.board.specs.Meaning.Step.{stepOn, stepNumber, stepOutput}
+use Rattle.board.specs.Meaning.Board.{live}
+use Rattle.board.specs.Meaning.Calls.{after, says}
 use Rattle.board.specs.declared.Board.{Board}
 
 -- ---- the sheet's side
@@ -46,32 +44,13 @@ pub record MoveBy (d : Decoded) (h : ℕ) (t : List ℕ) (i : ℕ) (u : List ℕ
 abbrev pub GuardStates : Decoded → ℕ → List (List ℕ) → Type 0
 GuardStates d h = FirstMet (List ℕ) (Chosen d h) (MoveBy d h) (firstTuple d)
 
--- 1 where, in mode 1, the output is not what the input proposes, else 0
-unfoldable pub strays : Decoded → ℕ → ℕ → ℕ
-strays d i o = cond (eqb (d .mode) 1 && differs d i o) 1 0
-
--- ---- the board's side
-
--- the board that a call hands back, and what it answers
-unfoldable pub after : Board → Call (List ℕ) → Board
-after b (load t) = loadOn b t .board
-after b (step t i) = stepOn b t i .board
-after b rewind = rewindOn b .board
-after b unload = unloadOn b .board
-
-unfoldable pub says : Board → Call (List ℕ) → Answer
-says b (load t) = record { number = loadNumber (loadOn b t .answer); output = 0 }
-says b (step t i) = record { number = stepNumber (stepOn b t i .answer); output = stepOutput (stepOn b t i .answer) }
-says b rewind = record { number = changeNumber (rewindOn b .answer); output = 0 }
-says b unload = record { number = changeNumber (unloadOn b .answer); output = 0 }
-
 -- the board shows the sheet's mode, inputs and outputs, and the run's steps and deviations
 pub record Shows (d : Decoded) (b : Board) (run : List Step) : Type 0 where
   pub mode : b .mode ≡ d .mode
   pub inputs : b .inputs ≡ inputLines d
   pub outputs : b .outputs ≡ d .outputs
   pub steps : b .steps ≡ length run
-  pub deviated : b .deviations ≡ deviations (strays d) run
+  pub deviated : b .deviations ≡ deviations (d .mode) (d .site) run
 
 -- ---- the claim
 

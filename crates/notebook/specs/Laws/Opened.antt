@@ -21,7 +21,8 @@ use Rattle.sheet.specs.Model.Monitor.{monitorAt, takeMonitor}
 use Rattle.sheet.specs.Model.Reader.{takeRecord, onFound, readRecords, firstFound, reading}
 use Rattle.sheet.specs.Meaning.Refusals.{headNumber, monitorNumber, recordsNumber, sheetNumber}
 use Rattle.sheet.specs.Model.Where.{automaton, decoded}
-use Rattle.product.specs.Meaning.Step.{proposal, differs, siteLetter, nextState, accepts, shadowed, shadowMoved, sound, limitLetter, letterOf, monitorMoved, moved, advance, broken, firstTuple, line, equalLines, softReward}
+use Rattle.game.specs.Meaning.Proposal.{proposal, differs, deviates}
+use Rattle.product.specs.Meaning.Step.{siteLetter, nextState, accepts, shadowed, shadowMoved, sound, limitLetter, letterOf, monitorMoved, moved, advance, broken, firstTuple, line, equalLines, softReward}
 use Rattle.product.specs.Model.Stages.{matchReward}
 use Rattle.product.specs.Model.States.{same}
 use Rattle.product.specs.Model.Numbered.{statesAfter, productStates, stateCount, stateOf, numberOf, cellOf}
@@ -42,7 +43,7 @@ use Rattle.tables.specs.Meaning.Loadable as table
 use Rattle.tables.specs.Meaning.Loadable.{sizeOk, fieldsOk, entryOk, entriesOk, rowOk, rowsOk, loadable}
 use Rattle.board.specs.Meaning.Load.{boardOf, loadOn}
 use Rattle.board.specs.Meaning.Step as board
-use Rattle.board.specs.Meaning.Step.{deviates, outputAt, nextAt, entryFits, lookedUp, stepOn}
+use Rattle.board.specs.Meaning.Step.{outputAt, nextAt, entryFits, lookedUp, stepOn}
 use Rattle.notebook.specs.Model.Row.{isAbove, isOrdered, test, tests}
 use Rattle.notebook.specs.Model.Figures.{scoresOf, outputsFrom, boardFrom, outputs, deviations}
 
@@ -76,5 +77,5 @@ guards = tt
 -- load and step
 unfoldable pub boards : Unit {0}
 unfolding lists rowLength tableLength entryAt headerIs rowAt countsOk live emptyBoard runAt sizeOk fieldsOk table.headOk entryOk entriesOk rowOk rowsOk
-    loadable boardOf loadOn board.proposal deviates outputAt nextAt entryFits board.moved lookedUp stepOn outputsFrom boardFrom outputs deviations
+    loadable boardOf loadOn proposal differs deviates outputAt nextAt entryFits board.moved lookedUp stepOn outputsFrom boardFrom outputs deviations
 boards = tt

@@ -10,7 +10,8 @@ use Rattle.records.specs.Meaning.Bounded.{any}
 use Rattle.records.specs.Laws.Bounded.{any-not, any-none}
 use Rattle.records.specs.Laws.Bits.{same-bits}
 use Rattle.sheet.specs.Meaning.Decoded.{Decoded}
-use Rattle.product.specs.Meaning.Step.{outputsOf, proposal, differs, line}
+use Rattle.game.specs.Meaning.Proposal.{proposal, differs}
+use Rattle.product.specs.Meaning.Step.{outputsOf, line}
 
 -- line j of two numbers differs
 unfoldable pub apart : ℕ → ℕ → ℕ → Bool
@@ -30,7 +31,7 @@ apart-some n a b ha hb =
     none j e = rw (eq-eqb (line a j) (line b j) (rw e))
 
 -- output and proposal differ exactly if they differ in some line
-pub differs-in-some-line : (d : Decoded) (i o : ℕ) → o < outputsOf d → proposal d i < outputsOf d
-    → differs d i o ≡ any (d .outputs) (apart o (proposal d i))
+pub differs-in-some-line : (d : Decoded) (i o : ℕ) → o < outputsOf d → proposal (d .site) i < outputsOf d
+    → differs (d .site) i o ≡ any (d .outputs) (apart o (proposal (d .site) i))
 unfolding differs
-differs-in-some-line d i o ho hp = apart-some (d .outputs) o (proposal d i) ho hp
+differs-in-some-line d i o ho hp = apart-some (d .outputs) o (proposal (d .site) i) ho hp

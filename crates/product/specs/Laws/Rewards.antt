@@ -11,16 +11,17 @@ use lib.ListN.{length, getD}
 use Rattle.records.specs.Meaning.Bounded.{count}
 use Rattle.records.specs.Laws.Bounded.{count-le, sum-most}
 use Rattle.sheet.specs.Meaning.Decoded.{Decoded, monitorOf, SheetOk}
-use Rattle.product.specs.Meaning.Step.{accepts, advance, proposal, equalLines, softReward, rewardBy, weightOf, reward}
+use Rattle.game.specs.Meaning.Proposal.{proposal}
+use Rattle.product.specs.Meaning.Step.{accepts, advance, equalLines, softReward, rewardBy, weightOf, reward}
 use Rattle.product.specs.Model.Stages.{sameLine, matchReward}
 
 module _ (d : Decoded) where
-  pub lines-count : (i o : ℕ) → count (d .outputs) (sameLine o (proposal d i)) ≡ equalLines d i o
+  pub lines-count : (i o : ℕ) → count (d .outputs) (sameLine o (proposal (d .site) i)) ≡ equalLines d i o
   unfolding equalLines sameLine
   lines-count i o = refl
 
   pub lines-most : (i o : ℕ) → equalLines d i o ≤ d .outputs
-  lines-most i o = rw (← lines-count i o) (count-le (d .outputs) (sameLine o (proposal d i)))
+  lines-most i o = rw (← lines-count i o) (count-le (d .outputs) (sameLine o (proposal (d .site) i)))
 
   -- a reward has two parts: one of the state after the step, one of the letter
   pub reward-parts : (t : List ℕ) (i o : ℕ)
