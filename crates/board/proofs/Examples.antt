@@ -6,10 +6,10 @@ use Prim.Native.Nat.{ℕ, _-_}
 use Rattle.records.specs.Meaning.Bounded.{all}
 use Rattle.records.specs.Meaning.Numbers.{u16At}
 use Rattle.records.specs.Meaning.Limits.{linesOk, horizonOk}
-use Rattle.records.specs.Meaning.GuardTable.{rowLength, tableLength, entryAt, headerIs}
-use Rattle.records.specs.Meaning.GuardTable.{rowAt}
+use Rattle.guard_table.specs.Meaning.GuardTable.{rowLength, tableLength, entryAt, headerIs}
+use Rattle.guard_table.specs.Meaning.GuardTable.{rowAt}
 use Rattle.board.specs.Meaning.Board.{countsOk, live, emptyBoard, runAt}
-use Rattle.tables.specs.Meaning.Loadable.{sizeOk, fieldsOk, headOk, entryOk, entriesOk, rowOk, rowsOk, loadable}
+use Rattle.guard_table.specs.Meaning.Loadable.{sizeOk, fieldsOk, headOk, entryOk, entriesOk, rowOk, rowsOk, loadable}
 use Rattle.board.specs.Meaning.Load.{boardOf, loadOn, loadNumber}
 use Rattle.board.specs.Meaning.Step.{proposal, deviates, outputAt, nextAt, entryFits, moved, lookedUp, stepOn, stepNumber}
 

@@ -8,7 +8,7 @@ use lib.Dec.{leb, ltb, eqb}
 use Rattle.records.specs.Laws.Tests.{by-test}
 use Rattle.records.specs.Meaning.Limits.{maxSteps}
 use Rattle.board.specs.Meaning.Board.{live, emptyBoard, rewindOn, unloadOn, changeNumber, changeRefusal}
-use Rattle.tables.specs.Meaning.Loadable.{loadable}
+use Rattle.guard_table.specs.Meaning.Loadable.{loadable}
 use Rattle.board.specs.Meaning.Load.{loadOn, loadNumber, loadRefusal}
 use Rattle.board.specs.Meaning.Step.{outputAt, entryFits, moved, lookedUp, stepOn, stepNumber, stepOutput, stepRefusal, stepGiven}
 use Rattle.board.specs.Meaning.History.{load, step, rewind, unload}

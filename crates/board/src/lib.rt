@@ -6,12 +6,13 @@ use crate::answers::Load;
 use crate::answers::Loading;
 use crate::answers::Step;
 use crate::answers::Stepping;
-use records::layout::Layout;
+use guard_table::layout::Layout;
+use guard_table::loadable::entry_ok;
+use guard_table::loadable::is_loadable;
+use records::limits::Limits;
 use records::limits::lines_ok;
 use records::numbers::pow2;
 use records::numbers::u16_at;
-use tables::entry_ok;
-use tables::is_loadable;
 ghost use mathlib.Core.Path.{_≡_};
 ghost use mathlib.Core.Bool.{true};
 ghost use Prim.Native.Nat.{_^_, _<_, _≤_};
@@ -46,7 +47,7 @@ fn counts_ok(mode: u8, count: u16, place: u16, steps: u32, deviations: u32) -> b
     if count < 1 {
         return false;
     }
-    if Layout::STATES < count as usize {
+    if Limits::STATES < count as usize {
         return false;
     }
     if count <= place {

@@ -11,9 +11,9 @@ use lib.Seq.{sets}
 use Rattle.records.specs.Meaning.Lists.{cat}
 use Rattle.records.specs.Laws.Lists.{sets-append}
 use Rattle.records.specs.Meaning.Records.{header}
-use Rattle.records.specs.Meaning.GuardTable.{rowLength, tableLength, guardRow, guardTable}
-use Rattle.records.specs.Meaning.GuardTable.{rowAt}
-use Rattle.records.specs.Laws.GuardTable.{row-fits}
+use Rattle.guard_table.specs.Meaning.GuardTable.{rowLength, tableLength, guardRow, guardTable}
+use Rattle.guard_table.specs.Meaning.GuardTable.{rowAt}
+use Rattle.guard_table.specs.Laws.GuardTable.{row-fits}
 use Rattle.records.specs.Meaning.Numbers.{u16Bytes}
 use Rattle.values.specs.Model.Values.{Game}
 use Rattle.values.specs.Model.Guard.{chosen}

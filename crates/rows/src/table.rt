@@ -2,8 +2,8 @@
 // `inputs` is the number of inputs that `lines` lines make; `cells`, `choices`, `order` and `numbers` are as planning
 // leaves them.
 use crate::states::follow;
+use guard_table::layout::Layout;
 use records::cursor::put_header;
-use records::layout::Layout;
 use records::numbers::put_u16;
 use sheet::layout::Sheet;
 ghost use mathlib.Core.Path.{_≡_};
@@ -14,7 +14,7 @@ ghost use lib.Seq.{sets};
 ghost use Rattle.records.specs.Meaning.Lists.{cat};
 ghost use Rattle.records.specs.Meaning.Numbers.{u16Bytes};
 ghost use Rattle.records.specs.Meaning.Records.{header};
-ghost use Rattle.records.specs.Meaning.GuardTable.{rowLength, tableLength};
+ghost use Rattle.guard_table.specs.Meaning.GuardTable.{rowLength, tableLength};
 ghost use Rattle.values.specs.Model.Numbered.{stepsOf};
 ghost use Rattle.rows.specs.Model.Entered.{entryBy, rowBy, tableBy, Entered, Tabled};
 

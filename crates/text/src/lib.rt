@@ -1,7 +1,7 @@
 // The pieces of a listing. Each is put at a place of the text memory, and answers the place after it.
 pub mod lengths;
 
-use records::layout::Layout;
+use guard_table::layout::Layout;
 use records::numbers::pow2;
 use records::numbers::u16_at;
 ghost use mathlib.Core.Path.{_≡_};

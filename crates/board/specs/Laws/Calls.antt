@@ -13,10 +13,10 @@ use borrow.Author.Tests.{leb-false, ltb-true, lt-ltb, le-ltb, lt-leb, le-leb, eq
 use Rattle.records.specs.Laws.Tests.{and-left, and-right, and-both, by-test}
 use Rattle.records.specs.Meaning.Numbers.{u16At}
 use Rattle.records.specs.Meaning.Limits.{maxSteps}
-use Rattle.records.specs.Meaning.GuardTable.{tableLength, entryAt}
+use Rattle.guard_table.specs.Meaning.GuardTable.{tableLength, entryAt}
 use Rattle.board.specs.Meaning.Board.{live, emptyBoard, runAt, rewindOn, unloadOn}
-use Rattle.tables.specs.Meaning.Loadable.{entryOk, loadable}
-use Rattle.tables.specs.Laws.Facts.{loadable-head, loadable-entry}
+use Rattle.guard_table.specs.Meaning.Loadable.{entryOk, loadable}
+use Rattle.guard_table.specs.Laws.Facts.{loadable-head, loadable-entry}
 use Rattle.board.specs.Meaning.Load.{boardOf, loadOn}
 use Rattle.board.specs.Meaning.Step.{proposal, deviates, outputAt, nextAt, entryFits, moved, lookedUp, stepOn, stepNumber, stepRefusal}
 use Rattle.board.specs.Meaning.History.{Call, load, step, rewind, unload, handed}

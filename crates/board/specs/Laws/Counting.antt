@@ -9,7 +9,7 @@ use native.Mathlib.Nat.{zero-add, add-zero, add-comm}
 use borrow.Author.Tests.{eq-eqb}
 use Rattle.records.specs.Laws.Tests.{both-ways, by-test}
 use Rattle.board.specs.Meaning.Board.{live, emptyBoard, runAt}
-use Rattle.tables.specs.Meaning.Loadable.{loadable}
+use Rattle.guard_table.specs.Meaning.Loadable.{loadable}
 use Rattle.board.specs.Meaning.Load.{boardOf}
 use Rattle.board.specs.Meaning.Step.{deviates, outputAt, nextAt, moved}
 use Rattle.board.specs.Meaning.History.{Call, load, step, rewind, unload, Event, loadEvent, stepEvent, rewindEvent, unloadEvent, handed, answered, after, history, begins, strays, strayed, Counts, KeepsCount}

@@ -6,9 +6,9 @@ use mathlib.Core.List.{List}
 use Prim.Native.Nat.{ℕ, _+_, _^_, _≤_, _<_}
 use lib.ListN.{getD}
 use Rattle.records.specs.Meaning.Limits.{maxStates, maxSteps, linesOk, horizonOk}
-use Rattle.records.specs.Meaning.GuardTable.{entryAt, guardTable}
-use Rattle.records.specs.Laws.GuardTable.{HeadReads, table-head, entry-output, entry-next}
-use Rattle.tables.specs.Laws.Guard.{guard-loadable}
+use Rattle.guard_table.specs.Meaning.GuardTable.{entryAt, guardTable}
+use Rattle.guard_table.specs.Laws.GuardTable.{HeadReads, table-head, entry-output, entry-next}
+use Rattle.guard_table.specs.Laws.Guard.{guard-loadable}
 use Rattle.board.specs.Meaning.Board.{live}
 use Rattle.board.specs.Meaning.Step.{outputAt, nextAt, moved, stepOn}
 use Rattle.board.specs.Laws.Facts.{live-facts}

@@ -6,9 +6,9 @@ use Prim.Native.Nat.{ℕ, _+_, _-_, _/_, _^_}
 use lib.Dec.{ltb, leb, eqb}
 use lib.ListN.{length, getD}
 use Rattle.records.specs.Meaning.Limits.{maxSteps}
-use Rattle.records.specs.Meaning.GuardTable.{tableLength, entryAt}
+use Rattle.guard_table.specs.Meaning.GuardTable.{tableLength, entryAt}
 use Rattle.board.specs.Meaning.Board.{live, runAt}
-use Rattle.tables.specs.Meaning.Loadable.{entryOk}
+use Rattle.guard_table.specs.Meaning.Loadable.{entryOk}
 use Rattle.board.specs.declared.Board.{Board}
 use Rattle.board.specs.declared.answers.Step.{Step}
 use Rattle.board.specs.declared.answers.Step.the-variants.{Output, Empty, Spent, BadInput, BadTable}

@@ -10,7 +10,7 @@ use lib.ListN.{length, getD}
 use Rattle.records.specs.Meaning.Limits.{maxStates}
 use Rattle.records.specs.Laws.Lists.{length-tab, cat-ext}
 use Rattle.records.specs.Meaning.Records.{header}
-use Rattle.records.specs.Meaning.GuardTable.{rowLength, tableLength, guardRow, guardTable}
+use Rattle.guard_table.specs.Meaning.GuardTable.{rowLength, tableLength, guardRow, guardTable}
 use Rattle.sheet.specs.Meaning.Decoded.{Decoded, SheetOk, inputLines}
 use Rattle.product.specs.Meaning.Step.{inputsOf, advance, firstTuple}
 use Rattle.product.specs.Model.Numbered.{stateCount, stateOf, numberOf}

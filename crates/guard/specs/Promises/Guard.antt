@@ -6,7 +6,7 @@ use mathlib.Core.List.{List}
 use Prim.Native.Nat.{ℕ, _+_, _*_, _≤_, _<_}
 use lib.Dec.{leb}
 use lib.ListN.{length, getD, take}
-use Rattle.records.specs.Meaning.GuardTable.{guardTable}
+use Rattle.guard_table.specs.Meaning.GuardTable.{guardTable}
 use Rattle.sheet.specs.Meaning.Decoded.{Decoded, inputLines}
 use Rattle.product.specs.Meaning.Step.{inputsOf, advance, firstTuple}
 use Rattle.solve.specs.Meaning.Allowed.{Accepted}

@@ -15,7 +15,7 @@ use Rattle.records.specs.Laws.Tests.{by-test}
 use Rattle.records.specs.Meaning.Limits.{maxStates}
 use Rattle.records.specs.Laws.Lists.{sets-front}
 use Rattle.records.specs.Meaning.Numbers.{Bytes}
-use Rattle.records.specs.Meaning.GuardTable.{rowLength, tableLength}
+use Rattle.guard_table.specs.Meaning.GuardTable.{rowLength, tableLength}
 use Rattle.sheet.specs.Meaning.Decoded.{Decoded, SheetOk, inputLines}
 use Rattle.sheet.specs.Meaning.Grounds.{groundNumber}
 use Rattle.sheet.specs.Laws.Grounds.{some-number}
@@ -29,7 +29,7 @@ use Rattle.solve.specs.Model.Making.{sheetOf, manyNumber, lostNumber, roomNumbe
 use Rattle.supervisor.specs.Promises.Supervisor.{tuplesLength, cellsLength, droppedLength}
 use Rattle.solve.specs.declared.made.Made.{Made}
 use Rattle.solve.specs.declared.made.Made.the-variants.{Table, Refused}
-use Rattle.tables.specs.Meaning.Loadable.{loadable}
+use Rattle.guard_table.specs.Meaning.Loadable.{loadable}
 use Rattle.guard.specs.Model.Table.{outputOf, nextOf, guardOver, guardTableOf}
 use Rattle.guard.specs.Promises.Guard.{gainsLength, bonusesLength, valuesLength, choicesLength, orderLength, guardStates, Work, workOk, MakesGuard}
 use Rattle.guard.specs.Model.Lent.{Long}

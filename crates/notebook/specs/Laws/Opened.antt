@@ -7,7 +7,7 @@ use Rattle.records.specs.Meaning.Lists.{tab, cat}
 use Rattle.records.specs.Model.Lists.{put}
 use Rattle.records.specs.Meaning.Numbers.{u16At}
 use Rattle.records.specs.Meaning.Records.{readAt}
-use Rattle.records.specs.Meaning.GuardTable.{rowLength, tableLength, entryAt, headerIs, guardRow, guardTable, rowAt}
+use Rattle.guard_table.specs.Meaning.GuardTable.{rowLength, tableLength, entryAt, headerIs, guardRow, guardTable, rowAt}
 use Rattle.game.specs.Model.Numbering.{explore, visit, met, meet, add, find}
 use Rattle.game.specs.Model.Choice.{before, against, leader, choose}
 use Rattle.sheet.specs.Meaning.Decoded.{inputsOf, lettersOf, encode, encodeHead, encodeMonitor}
@@ -36,8 +36,8 @@ use Rattle.values.specs.Model.Guard.{chosen, follows, guardStates, guardNumber}
 use Rattle.guard.specs.Model.Table as guard
 use Rattle.guard.specs.Model.Table.{gainsOf, bonusOf, bonusesOf, gameOf, valuesOf, choicesOf, guardOf, guardCount, outputOf, guardOver, guardTableOf}
 use Rattle.board.specs.Meaning.Board.{countsOk, live, emptyBoard, runAt}
-use Rattle.tables.specs.Meaning.Loadable as table
-use Rattle.tables.specs.Meaning.Loadable.{sizeOk, fieldsOk, entryOk, entriesOk, rowOk, rowsOk, loadable}
+use Rattle.guard_table.specs.Meaning.Loadable as table
+use Rattle.guard_table.specs.Meaning.Loadable.{sizeOk, fieldsOk, entryOk, entriesOk, rowOk, rowsOk, loadable}
 use Rattle.board.specs.Meaning.Load.{boardOf, loadOn}
 use Rattle.board.specs.Meaning.Step as board
 use Rattle.board.specs.Meaning.Step.{deviates, outputAt, nextAt, entryFits, lookedUp, stepOn}

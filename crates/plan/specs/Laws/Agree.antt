@@ -16,7 +16,7 @@ use Rattle.records.specs.Laws.Bounded.{sum-cong, top-cong}
 use Rattle.records.specs.Laws.Lists.{cat-ext, getD-put-front}
 use Rattle.records.specs.Meaning.Numbers.{zeros, u16Bytes}
 use Rattle.records.specs.Meaning.Records.{header}
-use Rattle.records.specs.Meaning.GuardTable.{entryWidth, guardRow, guardTable}
+use Rattle.guard_table.specs.Meaning.GuardTable.{entryWidth, guardRow, guardTable}
 use Rattle.sheet.specs.Meaning.Decoded.{Decoded}
 use Rattle.product.specs.Meaning.Step.{inputsOf, outputsOf}
 use Rattle.product.specs.Model.Numbered.{stateCount}

@@ -16,7 +16,7 @@ use Rattle.records.specs.Laws.Limits.{horizon-facts}
 use Rattle.records.specs.Laws.Tests.{and-both}
 use Rattle.records.specs.Meaning.Lists.{tab}
 use Rattle.records.specs.Laws.Lists.{getD-tab}
-use Rattle.records.specs.Meaning.GuardTable.{guardTable}
+use Rattle.guard_table.specs.Meaning.GuardTable.{guardTable}
 use Rattle.sheet.specs.Meaning.Decoded.{Decoded, SheetOk, HorizonOk, inputLines}
 use Rattle.sheet.specs.Model.Where.{decoded}
 use Rattle.sheet.specs.declared.layout.Sheet.{Sheet}

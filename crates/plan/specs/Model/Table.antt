@@ -7,7 +7,7 @@ use lib.Dec.{eqb}
 use lib.ListN.{length, getD}
 use Rattle.records.specs.Meaning.Lists.{tab}
 use Rattle.records.specs.Meaning.Numbers.{zeros}
-use Rattle.records.specs.Meaning.GuardTable.{guardTable}
+use Rattle.guard_table.specs.Meaning.GuardTable.{guardTable}
 use Rattle.sheet.specs.Meaning.Decoded.{Decoded, inputLines}
 use Rattle.product.specs.Meaning.Step.{inputsOf, outputsOf, softReward, weightOf, equalLines}
 use Rattle.product.specs.Model.States.{lettersOf}

@@ -15,10 +15,10 @@ use Rattle.records.specs.Meaning.Lists.{cat}
 use Rattle.records.specs.Laws.Lists.{cat-ext}
 use Rattle.records.specs.Meaning.Numbers.{u16At}
 use Rattle.records.specs.Laws.Limits.{lines-facts, horizon-facts}
-use Rattle.records.specs.Meaning.GuardTable.{entryAt, guardTable}
-use Rattle.records.specs.Laws.GuardTable.{table-head, entry-output, entry-next}
-use Rattle.tables.specs.Meaning.Loadable.{loadable, entryOk}
-use Rattle.tables.specs.Laws.Facts.{loadable-head, loadable-entry}
+use Rattle.guard_table.specs.Meaning.GuardTable.{entryAt, guardTable}
+use Rattle.guard_table.specs.Laws.GuardTable.{table-head, entry-output, entry-next}
+use Rattle.guard_table.specs.Meaning.Loadable.{loadable, entryOk}
+use Rattle.guard_table.specs.Laws.Facts.{loadable-head, loadable-entry}
 use Rattle.text.specs.Meaning.Listing.{decimal, lineEnd, headLine, rowText, listing, refusedText, outputIn, nextIn, entryOf, rowOf, listingOf}
 use Rattle.text.specs.Model.Put.{Put, Filled}
 use Rattle.text.specs.Laws.Digits.{one-digit, two-most, three-most}

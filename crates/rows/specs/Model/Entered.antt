@@ -3,7 +3,7 @@
 use mathlib.Core.List.{List, [], _∷_}
 use Prim.Native.Nat.{ℕ, _-_, _≤_, _<_}
 use lib.ListN.{length, getD}
-use Rattle.records.specs.Meaning.GuardTable.{guardRow, guardTable}
+use Rattle.guard_table.specs.Meaning.GuardTable.{guardRow, guardTable}
 use Rattle.values.specs.Model.Values.{Game}
 use Rattle.values.specs.Model.Guard.{chosen, follows, guardStates}
 use Rattle.values.specs.Model.Numbered.{Following, Numbered}

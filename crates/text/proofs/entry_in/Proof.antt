@@ -3,7 +3,7 @@ use Prim.Native.Nat.{_+_, _^_, _≤_, _<_}
 use native.Mathlib.Omega.{arith}
 use lib.ListN.{length}
 use lib.Pow.{pow-mono}
-use Rattle.records.specs.Laws.GuardTable.{entry-inside}
+use Rattle.guard_table.specs.Laws.GuardTable.{entry-inside}
 use Rattle.text.specs.Meaning.Listing.{outputIn, nextIn}
 use Rattle.text.proofs.entry_in.Statement.{statement}
 use Rattle.text.proofs.entry_in.Tie as tie

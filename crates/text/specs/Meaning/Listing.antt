@@ -7,7 +7,7 @@ use lib.Dec.{ltb}
 use lib.ListN.{getD}
 use Rattle.records.specs.Meaning.Lists.{cat}
 use Rattle.records.specs.Meaning.Numbers.{u16At}
-use Rattle.records.specs.Meaning.GuardTable.{entryAt}
+use Rattle.guard_table.specs.Meaning.GuardTable.{entryAt}
 
 -- ---- numbers
 

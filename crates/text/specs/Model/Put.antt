@@ -6,7 +6,7 @@ use Prim.Native.Nat.{ℕ, _+_, _≤_}
 use lib.ListN.{length}
 use lib.Seq.{sets}
 use Rattle.records.specs.Meaning.Limits.{maxStates}
-use Rattle.records.specs.Meaning.GuardTable.{tableLength}
+use Rattle.guard_table.specs.Meaning.GuardTable.{tableLength}
 
 -- words put at a place, and the place after them
 pub record Put (before : List ℕ) (at : ℕ) (words : List ℕ) (place : ℕ) (after : List ℕ) : Type 0 where

@@ -8,7 +8,7 @@ use denote.Ref.{now}
 use borrow.Author.Tests.{ne-eqb, eq-eqb}
 use Rattle.records.specs.Laws.Tests.{said}
 use Rattle.records.specs.Laws.Limits.{Lines, lines-facts}
-use Rattle.records.specs.Laws.GuardTable.{entry-inside}
+use Rattle.guard_table.specs.Laws.GuardTable.{entry-inside}
 use Rattle.board.specs.Laws.Facts.{Live, live-facts}
 use Rattle.board.specs.Meaning.Step.{outputAt, nextAt, entryFits, lookedUp}
 use borrow.Author.Needs.{needs}

@@ -3,8 +3,8 @@ use mathlib.Core.Path.{_≡_, sym, _∙_}
 use Prim.Native.Nat.{ℕ, _+_, _-_, _*_, _≤_}
 use native.Mathlib.Omega.{arith}
 use lib.ListN.{length, getD}
-use Rattle.records.specs.Meaning.GuardTable.{rowLength}
-use Rattle.records.specs.Laws.GuardTable.{length-row}
+use Rattle.guard_table.specs.Meaning.GuardTable.{rowLength}
+use Rattle.guard_table.specs.Laws.GuardTable.{length-row}
 use Rattle.values.specs.Model.Numbered.{stepsOf}
 use Rattle.records.specs.Laws.Stores.{Blocks, no-block, same-blocks, more-blocks, all-blocks}
 use Rattle.rows.specs.Model.Entered.{rowBy}
