@@ -6,12 +6,11 @@ use Prim.Native.Nat.{ℕ, _-_}
 use Rattle.records.specs.Meaning.Bounded.{all}
 use Rattle.records.specs.Meaning.Numbers.{u16At}
 use Rattle.records.specs.Meaning.Limits.{linesOk, horizonOk}
-use Rattle.guard_table.specs.Meaning.GuardTable.{rowLength, tableLength, entryAt, headerIs}
-use Rattle.guard_table.specs.Meaning.GuardTable.{rowAt}
+use Rattle.guard_table.specs.Meaning.GuardTable.{rowLength, tableLength, rowAt, entryAt, headerIs, outputIn, nextIn}
 use Rattle.board.specs.Meaning.Board.{countsOk, live, emptyBoard, runAt}
 use Rattle.guard_table.specs.Meaning.Loadable.{sizeOk, fieldsOk, headOk, entryOk, entriesOk, rowOk, rowsOk, loadable}
 use Rattle.board.specs.Meaning.Load.{boardOf, loadOn, loadNumber}
-use Rattle.board.specs.Meaning.Step.{proposal, deviates, outputAt, nextAt, entryFits, moved, lookedUp, stepOn, stepNumber}
+use Rattle.board.specs.Meaning.Step.{proposal, deviates, entryFits, moved, lookedUp, stepOn, stepNumber}
 
 -- one state, always off
 abbrev off : List ℕ
@@ -34,9 +33,9 @@ pub record Examples : Type 0 where
   pub cut : loadNumber (loadOn emptyBoard (6 ∷ 0 ∷ 16 ∷ 0 ∷ []) .answer) ≡ 11
 
 pub examples : Examples
-unfolding all u16At linesOk horizonOk rowLength tableLength entryAt headerIs rowAt countsOk live emptyBoard runAt
+unfolding all u16At linesOk horizonOk rowLength tableLength entryAt headerIs outputIn nextIn rowAt countsOk live emptyBoard runAt
     sizeOk fieldsOk headOk entryOk entriesOk rowOk rowsOk loadable boardOf loadOn
-    proposal deviates outputAt nextAt entryFits moved lookedUp stepOn
+    proposal deviates entryFits moved lookedUp stepOn
 examples =
     record {
       loads = refl;

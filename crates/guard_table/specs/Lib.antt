@@ -1,3 +1,4 @@
--- Guard tables that a board may load: when a slice is one, what that tells, and that the table of given entries is one.
+-- Guard tables: their layout, which slices are tables that a board may load, and that the table of given entries is one.
 pub mod Meaning
+pub mod Model
 pub mod Laws

@@ -1,4 +1,7 @@
 // Which slices are guard tables that a board may load.
+use crate::entry::entry_in;
+use crate::entry::entry_ok;
+use crate::heads::header_is;
 use crate::layout::Layout;
 use records::limits::Limits;
 use records::limits::horizon_ok;
@@ -6,11 +9,10 @@ use records::limits::lines_ok;
 use records::numbers::pow2;
 use records::numbers::u16_at;
 ghost use mathlib.Core.Path.{_≡_};
-ghost use Prim.Native.Nat.{_+_, _<_, _≤_};
-ghost use lib.ListN.{length};
-ghost use Rattle.records.specs.Meaning.Limits.{maxInputs, maxOutputs, maxStates};
-ghost use Rattle.guard_table.specs.Meaning.GuardTable.{rowAt};
-ghost use Rattle.guard_table.specs.Meaning.Loadable.{sizeOk, fieldsOk, headOk, entryOk, entriesOk, rowOk, rowsOk, loadable, Sized};
+ghost use Prim.Native.Nat.{_<_, _≤_};
+ghost use Rattle.records.specs.Meaning.Limits.{maxInputs, maxOutputs};
+ghost use Rattle.guard_table.specs.Meaning.Loadable.{sizeOk, fieldsOk, headOk, entriesOk, rowOk, rowsOk, loadable};
+ghost use Rattle.guard_table.specs.Model.Inside.{Sized};
 
 // Whether the count is in range, and the slice is as long as a table of so many states.
 fn size_ok(inputs: u8, count: u16, size: usize) -> bool
@@ -42,27 +44,11 @@ fn fields_ok(mode: u8, inputs: u8, outputs: u8, horizon: u8, count: u16, size: u
 fn head_ok(t: &[u8]) -> bool
     ensures { λ r. ⌜ r ≡ headOk (now (t .entry)) ⌝ }
 {
-    if t.len() < 10 {
+    if t.len() < Layout::HEAD_LENGTH {
         return false;
     }
-    if u16_at(t, 0) != 6 {
-        return false;
-    }
-    match u16_at(t, 2) {
-        16 => fields_ok(t[4], t[5], t[6], t[7], u16_at(t, 8), t.len()),
-        0..=15 | 17..=65535 => false,
-    }
-}
-
-// Whether the output and the next state of an entry are in range.
-pub fn entry_ok(t: &[u8], at: usize, outputs: u8, count: usize) -> bool
-    requires { ⌜ (at + 1 < length (now t)) × (outputs ≤ maxOutputs) ⌝ }
-    ensures { λ r. ⌜ r ≡ entryOk (now (t .entry)) at outputs count ⌝ }
-{
-    let output = t[at] as usize;
-    let next = t[at + 1] as usize;
-    if output < pow2(outputs) {
-        return next < count;
+    if header_is(t, 0, Layout::HEAD_SIZE, Layout::HEAD_KIND) {
+        return fields_ok(t[4], t[5], t[6], t[7], u16_at(t, 8), t.len());
     }
     false
 }
@@ -70,47 +56,37 @@ pub fn entry_ok(t: &[u8], at: usize, outputs: u8, count: usize) -> bool
 // Whether every entry of a state's row is in range. From the last entry down: a loop up to a power of two is compiled with a
 // shift at each turn.
 fn entries_ok(t: &[u8], inputs: u8, outputs: u8, count: usize, place: usize) -> bool
-    requires { ⌜ Sized (now t) inputs outputs count × (place < count) ⌝ }
+    requires { ⌜ Sized (now t) inputs count × ((outputs ≤ maxOutputs) × (place < count)) ⌝ }
     ensures { λ r. ⌜ r ≡ entriesOk (now (t .entry)) inputs outputs count place ⌝ }
 {
     let mut left = pow2(inputs);
     while 0 < left {
         left -= 1;
-        let at = Layout { inputs }.entry_at(place, left);
-        if !entry_ok(t, at, outputs, count) {
+        let entry = entry_in(t, inputs, place, left);
+        if !entry_ok(entry, outputs, count) {
             return false;
         }
     }
     true
 }
 
-// Where the row of a state begins.
-fn row_at(inputs: u8, place: usize) -> usize
-    requires { ⌜ (inputs ≤ maxInputs) × (place ≤ maxStates) ⌝ }
-    ensures { λ r. ⌜ r ≡ rowAt inputs place ⌝ }
-{
-    10 + place * Layout { inputs }.row_length()
-}
-
 // Whether the row of a state is in order.
 fn row_ok(t: &[u8], inputs: u8, outputs: u8, count: usize, place: usize) -> bool
-    requires { ⌜ Sized (now t) inputs outputs count × (place < count) ⌝ }
+    requires { ⌜ Sized (now t) inputs count × ((outputs ≤ maxOutputs) × (place < count)) ⌝ }
     ensures { λ r. ⌜ r ≡ rowOk (now (t .entry)) inputs outputs count place ⌝ }
 {
-    let at = row_at(inputs, place);
-    let size = u16_at(t, at) as usize;
-    if size != 2 * pow2(inputs) {
-        return false;
+    let layout = Layout { inputs };
+    let size = layout.row_size();
+    let at = layout.row_at(place);
+    if header_is(t, at, size as u16, Layout::ROW_KIND) {
+        return entries_ok(t, inputs, outputs, count, place);
     }
-    match u16_at(t, at + 2) {
-        17 => entries_ok(t, inputs, outputs, count, place),
-        0..=16 | 18..=65535 => false,
-    }
+    false
 }
 
 // Whether the row of every state is in order.
 fn rows_ok(t: &[u8], inputs: u8, outputs: u8, count: usize) -> bool
-    requires { ⌜ Sized (now t) inputs outputs count ⌝ }
+    requires { ⌜ Sized (now t) inputs count × (outputs ≤ maxOutputs) ⌝ }
     ensures { λ r. ⌜ r ≡ rowsOk (now (t .entry)) inputs outputs count ⌝ }
 {
     let mut place: usize = 0;

@@ -9,9 +9,10 @@ use native.Mathlib.Nat.{zero-add, add-zero, add-comm}
 use borrow.Author.Tests.{eq-eqb}
 use Rattle.records.specs.Laws.Tests.{both-ways, by-test}
 use Rattle.board.specs.Meaning.Board.{live, emptyBoard, runAt}
+use Rattle.guard_table.specs.Meaning.GuardTable.{outputIn, nextIn}
 use Rattle.guard_table.specs.Meaning.Loadable.{loadable}
 use Rattle.board.specs.Meaning.Load.{boardOf}
-use Rattle.board.specs.Meaning.Step.{deviates, outputAt, nextAt, moved}
+use Rattle.board.specs.Meaning.Step.{deviates, moved}
 use Rattle.board.specs.Meaning.History.{Call, load, step, rewind, unload, Event, loadEvent, stepEvent, rewindEvent, unloadEvent, handed, answered, after, history, begins, strays, strayed, Counts, KeepsCount}
 use Rattle.board.specs.Laws.Calls.{empty-board, load-empty, load-bad, step-empty, rewind-empty, unload-empty, load-occupied, rewind-live, unload-live, step-case, refused, taken}
 use Rattle.board.specs.declared.Board.{Board}
@@ -64,7 +65,7 @@ counts-on b (step t i) es h =
     by-test (live b)
     (λ e. elim (step-case b e t i) [
       | refused a n q ↦ subst Kept (sym q) (pass b _ es refl (rw n) h)
-      | taken s f q ↦ subst Kept (sym q) (count-taken b t i (outputAt b t i) (nextAt b t i) es e h)
+      | taken s f q ↦ subst Kept (sym q) (count-taken b t i (outputIn t (b .inputs) (b .place) i) (nextIn t (b .inputs) (b .place) i) es e h)
     ])
     (λ e. subst Kept (sym (step-empty b e t i)) (idle b _ e))
 counts-on b rewind es h =

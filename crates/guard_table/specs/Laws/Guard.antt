@@ -10,7 +10,7 @@ use borrow.Author.Tests.{lt-ltb, le-leb, eq-eqb}
 use Rattle.records.specs.Laws.Tests.{and-both}
 use Rattle.records.specs.Laws.Bounded.{all-of}
 use Rattle.records.specs.Meaning.Limits.{maxStates, linesOk, horizonOk}
-use Rattle.guard_table.specs.Meaning.GuardTable.{tableLength, entryAt, guardTable}
+use Rattle.guard_table.specs.Meaning.GuardTable.{headLength, tableLength, outputIn, nextIn, guardTable}
 use Rattle.guard_table.specs.Laws.GuardTable.{HeadReads, table-head, row-header, entry-output, entry-next}
 use Rattle.guard_table.specs.Meaning.Loadable.{sizeOk, fieldsOk, headOk, entryOk, entriesOk, rowOk, rowsOk, loadable}
 
@@ -36,10 +36,10 @@ module _
     unfolding headOk tableLength
     head =
         let h = reads in
-        let long : leb 10 (tableLength inputs count) ≡ true = le-leb 10 (tableLength inputs count) (omega arith) in
+        let long : leb headLength (tableLength inputs count) ≡ true = le-leb headLength (tableLength inputs count) (omega arith) in
         simp (h .fills, h .header-is, h .mode-is, h .inputs-is, h .outputs-is, h .horizon-is, h .count-is, long, fields)
 
-    entry : (k i : ℕ) → k < count → i < 2 ^ inputs → entryOk table (entryAt inputs k i) outputs count ≡ true
+    entry : (k i : ℕ) → k < count → i < 2 ^ inputs → entryOk (outputIn table inputs k i) (nextIn table inputs k i) outputs count ≡ true
     unfolding entryOk
     entry k i h l =
         rw (entry-output mode inputs outputs horizon count out next k h i l, entry-next mode inputs outputs horizon count out next k h i l)

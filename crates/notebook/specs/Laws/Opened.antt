@@ -7,7 +7,7 @@ use Rattle.records.specs.Meaning.Lists.{tab, cat}
 use Rattle.records.specs.Model.Lists.{put}
 use Rattle.records.specs.Meaning.Numbers.{u16At}
 use Rattle.records.specs.Meaning.Records.{readAt}
-use Rattle.guard_table.specs.Meaning.GuardTable.{rowLength, tableLength, entryAt, headerIs, guardRow, guardTable, rowAt}
+use Rattle.guard_table.specs.Meaning.GuardTable.{rowLength, tableLength, rowAt, entryAt, headerIs, outputIn, nextIn, guardRow, guardTable}
 use Rattle.game.specs.Model.Numbering.{explore, visit, met, meet, add, find}
 use Rattle.game.specs.Model.Choice.{before, against, leader, choose}
 use Rattle.sheet.specs.Meaning.Decoded.{inputsOf, lettersOf, encode, encodeHead, encodeMonitor}
@@ -40,7 +40,7 @@ use Rattle.guard_table.specs.Meaning.Loadable as table
 use Rattle.guard_table.specs.Meaning.Loadable.{sizeOk, fieldsOk, entryOk, entriesOk, rowOk, rowsOk, loadable}
 use Rattle.board.specs.Meaning.Load.{boardOf, loadOn}
 use Rattle.board.specs.Meaning.Step as board
-use Rattle.board.specs.Meaning.Step.{deviates, outputAt, nextAt, entryFits, lookedUp, stepOn}
+use Rattle.board.specs.Meaning.Step.{deviates, entryFits, lookedUp, stepOn}
 use Rattle.notebook.specs.Model.Row.{isAbove, isOrdered, test, tests}
 use Rattle.notebook.specs.Model.Figures.{scoresOf, outputsFrom, boardFrom, outputs, deviations}
 
@@ -73,6 +73,6 @@ guards = tt
 
 -- load and step
 unfoldable pub boards : Unit {0}
-unfolding lists rowLength tableLength entryAt headerIs rowAt countsOk live emptyBoard runAt sizeOk fieldsOk table.headOk entryOk entriesOk rowOk rowsOk
-    loadable boardOf loadOn board.proposal deviates outputAt nextAt entryFits board.moved lookedUp stepOn outputsFrom boardFrom outputs deviations
+unfolding lists rowLength tableLength rowAt entryAt headerIs outputIn nextIn countsOk live emptyBoard runAt sizeOk fieldsOk table.headOk entryOk entriesOk rowOk rowsOk
+    loadable boardOf loadOn board.proposal deviates entryFits board.moved lookedUp stepOn outputsFrom boardFrom outputs deviations
 boards = tt

@@ -5,7 +5,7 @@ use mathlib.Core.Bool.{true}
 use denote.Ref.{now}
 use Rattle.records.specs.Laws.Tests.{said}
 use Rattle.guard_table.specs.Meaning.Loadable.{headOk, loadable}
-use Rattle.guard_table.specs.Laws.Facts.{head-facts, head-sized}
+use Rattle.guard_table.specs.Laws.Facts.{head-facts, head-lines, head-sized}
 use borrow.Author.Needs.{needs}
 use Rattle.guard_table.proofs.loadable.is_loadable.Statement.{statement}
 use Rattle.guard_table.proofs.loadable.is_loadable.Tie as tie
@@ -33,7 +33,7 @@ cast-rows-ok : tie.Need-cast-rows-ok
 cast-rows-ok c = search needs
 
 rows-ok-requires : tie.Need-rows-ok-requires
-rows-ok-requires c κs = rw (c .u16-at .ensures) (head-sized _ (head (tested c)))
+rows-ok-requires c κs = (rw (c .u16-at .ensures) (head-sized _ (head (tested c))), head-lines _ (head (tested c)) .outputs-most)
 
 returns : tie.Need-returns
 unfolding loadable

@@ -1,84 +1,57 @@
--- `guard_table::loadable::row_ok`: the tests in the definition's order. Assumes nothing.
+-- `guard_table::loadable::row_ok`: the header, then the entries. Assumes nothing.
 use native.Mathlib.Omega.{arith}
-use Prim.Native.Nat.{_+_, _≤_, _<_}
-use lib.ListN.{length}
-use lib.Pow.{pow-mono}
+use mathlib.Core.Path.{_≡_}
+use mathlib.Core.Bool.{Bool, true, false}
 use denote.Ref.{now}
-use Rattle.records.specs.Laws.Tests.{cases}
-use Rattle.records.specs.Meaning.Limits.{maxInputs}
-use Rattle.guard_table.specs.Meaning.GuardTable.{headerIs}
-use Rattle.guard_table.specs.Laws.GuardTable.{row-inside}
+use Rattle.records.specs.Laws.Tests.{said}
+use Rattle.guard_table.specs.Meaning.GuardTable.{rowKind, rowSize, rowAt, headerIs}
+use Rattle.guard_table.specs.Model.Inside.{RowInside}
+use Rattle.guard_table.specs.Laws.GuardTable.{sized-row, header-inside}
 use Rattle.guard_table.specs.Meaning.Loadable.{rowOk}
 use borrow.Author.Needs.{needs}
 use Rattle.guard_table.proofs.loadable.row_ok.Statement.{statement}
 use Rattle.guard_table.proofs.loadable.row_ok.Tie as tie
 
-abbrev entry : tie.After-row-at → tie.Start
-entry c = c .before .before
+-- the places that the needs look back to
+abbrev start : tie.After-row-at → tie.Start
+start c = c .before .before .before
 
--- the row's header lies inside the slice
-inside : (c : tie.After-row-at) → c .row-at .result + 3 < length (now (entry c .args .t))
-inside c = let s = entry c in
-    omega (arith, row-inside (s .args .inputs) (s .args .place) (s .args .count) (s .pre .1), c .row-at .ensures, s .pre .0 .fills)
+-- the row lies inside the slice
+inside : (c : tie.After-row-at) → RowInside (now (start c .args .t)) (start c .args .inputs) (start c .args .place)
+inside c = let s = start c in sized-row (s .pre .0) (s .pre .1 .1)
 
-abbrev placed : tie.After-pow2 → tie.After-row-at
-placed c = c .before .before
+-- the test of the header is the definition's
+headed : (c : tie.After-header-is) (f : Bool) → c .header-is .result ≡ f →
+    let a = start (c .before) .args in
+    headerIs (now (a .t)) (rowAt (a .inputs) (a .place)) (rowSize (a .inputs)) rowKind ≡ f
+headed c f e =
+    let d = c .before in
+    rw (d .row-at .ensures .0, d .before .row-size .ensures .0) at (said (c .header-is .ensures) e)
 
-few : (c : tie.After-pow2) → c .pow2 .result ≤ 16
-few c = let m = pow-mono {i = entry (placed c) .args .inputs} {j = maxInputs} (omega arith) in omega (arith, m, c .pow2 .ensures)
+row-size-requires : tie.Need-row-size-requires
+row-size-requires c κs = c .before .pre .0 .inputs-most
 
 row-at-requires : tie.Need-row-at-requires
-row-at-requires c κs = search needs
+row-at-requires c κs = let s = c .before .before in omega (arith, s .pre .0 .inputs-most, s .pre .0 .count-most, s .pre .1 .1)
 
-u16-at-requires : tie.Need-u16-at-requires
-u16-at-requires c κs = omega (arith, inside c)
+cast-header-is : tie.Need-cast-header-is
+cast-header-is c = omega (arith, c .before .row-size .ensures .1)
 
-cast-size : tie.Need-cast-size
-cast-size c = search needs
-
-pow2-requires : tie.Need-pow2-requires
-pow2-requires c κs = search needs
-
-mul-if1 : tie.Need-mul-if1
-mul-if1 c = omega (arith, few c)
-
-returns : tie.Need-returns
-unfolding rowOk headerIs
-returns c = let s = c .before in search (cases, ← placed s .row-at .ensures, ← s .pow2 .ensures, ← s .before .u16-at .ensures)
-
-add-u16-at : tie.Need-add-u16-at
-add-u16-at c = omega (arith, inside (placed (c .before)))
-
-u16-at-requires-2 : tie.Need-u16-at-requires-2
-u16-at-requires-2 c κs = omega (arith, inside (placed (c .before)))
+header-is-requires : tie.Need-header-is-requires
+header-is-requires c κs = omega (arith, header-inside (inside c), c .row-at .ensures .0)
 
 entries-ok-requires : tie.Need-entries-ok-requires
 entries-ok-requires c κs = search needs
 
-returns-2 : tie.Need-returns-2
-unfolding rowOk headerIs
-returns-2 c = let k = c .before .before in
-    let s = k .before .before in
-    search (cases, ← placed s .row-at .ensures, ← s .pow2 .ensures, ← s .before .u16-at .ensures, ← k .u16-at2 .ensures, c .entries-ok .ensures)
+returns : tie.Need-returns
+unfolding rowOk
+returns c = let d = c .before in simp (headed (d .before) true (d .if1 .taken), c .entries-ok .ensures)
 
-returns-3 : tie.Need-returns-3
-unfolding rowOk headerIs
-returns-3 c = let k = c .before in
-    let s = k .before .before in
-    search (cases, ← placed s .row-at .ensures, ← s .pow2 .ensures, ← s .before .u16-at .ensures, ← k .u16-at2 .ensures)
+returns-2 : tie.Need-returns-2
+unfolding rowOk
+returns-2 c = simp (headed (c .before) false (c .if1 .left))
 
 pub row-ok-spec : {M : Type 1} → statement M
 row-ok-spec =
     tie.close
-    (tie.spec
-    row-at-requires
-    u16-at-requires
-    cast-size
-    pow2-requires
-    mul-if1
-    returns
-    add-u16-at
-    u16-at-requires-2
-    entries-ok-requires
-    returns-2
-    returns-3)
+    (tie.spec row-size-requires row-at-requires cast-header-is header-is-requires entries-ok-requires returns returns-2)

@@ -1,28 +1,19 @@
--- `guard_table::layout::Layout::row_length`: at most 16 entries. Assumes nothing.
+-- `guard_table::layout::Layout::row_length`: a sum. Assumes nothing.
 use native.Mathlib.Omega.{arith}
-use Prim.Native.Nat.{_^_, _≤_}
-use lib.Pow.{pow-mono}
-use Rattle.records.specs.Meaning.Limits.{maxInputs}
 use Rattle.guard_table.specs.Meaning.GuardTable.{rowLength}
 use borrow.Author.Needs.{needs}
 use Rattle.guard_table.proofs.layout.Layout.row_length.Statement.{statement}
 use Rattle.guard_table.proofs.layout.Layout.row_length.Tie as tie
 
-entries : (c : tie.After-pow2) → 2 ^ c .before .args .self .inputs ≤ 16
-entries c = pow-mono {j = maxInputs} (omega arith)
-
-pow2-requires : tie.Need-pow2-requires
-pow2-requires c κs = search needs
-
-mul-result : tie.Need-mul-result
-mul-result c = omega (arith, entries c)
+row-size-requires : tie.Need-row-size-requires
+row-size-requires c κs = search needs
 
 add-result : tie.Need-add-result
-add-result c = omega (arith, entries c)
+add-result c = omega arith
 
 returns : tie.Need-returns
 unfolding rowLength
-returns c = omega (arith, entries c)
+returns c = omega arith
 
 pub row-length-spec : {M : Type 1} → statement M
-row-length-spec = tie.close (tie.spec pow2-requires mul-result add-result returns)
+row-length-spec = tie.close (tie.spec row-size-requires add-result returns)

@@ -1,28 +1,15 @@
--- `guard_table::layout::Layout::table_length`: at most 256 rows of 36 bytes. Assumes nothing.
-use native.Mathlib.Omega.{arith}
-use native.Mathlib.Nat.{mul-le-mul}
-use Prim.Native.Nat.{_*_, _≤_}
-use Rattle.records.specs.Meaning.Limits.{maxStates}
-use Rattle.guard_table.specs.Meaning.GuardTable.{tableLength}
+-- `guard_table::layout::Layout::table_length`: where one row more would begin. Assumes nothing.
+use Rattle.guard_table.specs.Meaning.GuardTable.{tableLength, rowAt}
 use borrow.Author.Needs.{needs}
 use Rattle.guard_table.proofs.layout.Layout.table_length.Statement.{statement}
 use Rattle.guard_table.proofs.layout.Layout.table_length.Tie as tie
 
-rows : (c : tie.After-row-length) → c .before .args .count * c .row-length .result ≤ 9216
-rows c = mul-le-mul {n₂ = maxStates} {m₂ = 36} (omega arith) (omega arith)
-
-row-length-requires : tie.Need-row-length-requires
-row-length-requires c κs = search needs
-
-mul-result : tie.Need-mul-result
-mul-result c = omega (arith, rows c)
-
-add-result : tie.Need-add-result
-add-result c = omega (arith, rows c)
+row-at-requires : tie.Need-row-at-requires
+row-at-requires c κs = search needs
 
 returns : tie.Need-returns
-unfolding tableLength
-returns c = simp (c .row-length .ensures .0)
+unfolding tableLength rowAt
+returns c = c .row-at .ensures .0
 
 pub table-length-spec : {M : Type 1} → statement M
-table-length-spec = tie.close (tie.spec row-length-requires mul-result add-result returns)
+table-length-spec = tie.close (tie.spec row-at-requires returns)

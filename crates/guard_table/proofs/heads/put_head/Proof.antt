@@ -1,4 +1,4 @@
--- `rows::table::put_head`: ten bytes, stored one after the other. Assumes nothing.
+-- `guard_table::heads::put_head`: ten bytes, stored one after the other. Assumes nothing.
 use mathlib.Core.Path.{ap, _∙_}
 use mathlib.Core.List.{_∷_, _++_}
 use native.Mathlib.Omega.{arith}
@@ -7,8 +7,8 @@ use lib.Seq.{length-sets}
 use Rattle.records.specs.Meaning.Numbers.{u16Bytes}
 use Rattle.records.specs.Meaning.Records.{header}
 use borrow.Author.Needs.{needs}
-use Rattle.rows.proofs.table.put_head.Statement.{statement}
-use Rattle.rows.proofs.table.put_head.Tie as tie
+use Rattle.guard_table.proofs.heads.put_head.Statement.{statement}
+use Rattle.guard_table.proofs.heads.put_head.Tie as tie
 
 put-header-requires : tie.Need-put-header-requires
 put-header-requires c κs = search needs
