@@ -4,6 +4,7 @@ ghost use mathlib.Core.Path.{_≡_};
 ghost use Prim.Native.Nat.{_≤_};
 ghost use Rattle.records.specs.Meaning.Limits.{maxInputs, maxStates};
 ghost use Rattle.guard_table.specs.Meaning.GuardTable.{rowSize, rowLength, tableLength, rowAt, entryAt};
+ghost use Rattle.guard_table.specs.Model.Inside.{tableMost};
 
 // The guard table's kinds and sizes.
 pub struct Layout {
@@ -26,6 +27,9 @@ impl Layout {
     // An entry: output and next state.
     pub const ENTRY_WIDTH: usize = 2;
 
+    // No table is longer: 256 states with 16 inputs.
+    pub const MOST: usize = 9_226;
+
     // The bytes of a row's body: an entry for each input.
     pub fn row_size(self) -> usize
         requires { ⌜ self .inputs ≤ maxInputs ⌝ }
@@ -45,7 +49,7 @@ impl Layout {
     // Where the row of a state begins: after the head and the rows before it.
     pub fn row_at(self, place: usize) -> usize
         requires { ⌜ (self .inputs ≤ maxInputs) × (place ≤ maxStates) ⌝ }
-        ensures { λ r. ⌜ (r ≡ rowAt (self .inputs) place) × (r ≤ 9226) ⌝ }
+        ensures { λ r. ⌜ (r ≡ rowAt (self .inputs) place) × (r ≤ tableMost) ⌝ }
     {
         Layout::HEAD_LENGTH + place * self.row_length()
     }

@@ -4,9 +4,10 @@ use mathlib.Core.Path.{_≡_, refl, sym, ap, ap₂, _∙_}
 use mathlib.Core.Bool.{true}
 use mathlib.Core.List.{List, [], _∷_, _++_}
 use Prim.Native.Nat.{ℕ, _+_, _*_, _^_, _/_, _%_, _≤_, _<_}
-use native.Mathlib.Nat.{suc-mul, mul-le-mul-right, add-zero}
+use native.Mathlib.Nat.{suc-mul, mul-le-mul, mul-le-mul-right, add-zero}
 use native.Mathlib.Omega.{arith}
 use lib.ListN.{length, getD, length-append}
+use lib.Pow.{pow-mono}
 use lib.Seq.{getD-append-add}
 use borrow.Author.Tests.{eq-eqb}
 use Rattle.records.specs.Meaning.Limits.{maxInputs, maxStates}
@@ -15,7 +16,7 @@ use Rattle.records.specs.Laws.Lists.{length-cat, getD-cat, cat-ext}
 use Rattle.records.specs.Meaning.Numbers.{u16At, u16Bytes}
 use Rattle.records.specs.Meaning.Records.{header, headerSize}
 use Rattle.guard_table.specs.Meaning.GuardTable.{headKind, rowKind, headSize, headLength, entryWidth, rowSize, rowLength, tableLength, rowAt, entryAt, headerIs, outputIn, nextIn, guardHead, guardEntry, guardRow, guardTable}
-use Rattle.guard_table.specs.Model.Inside.{Sized, RowInside, Inside}
+use Rattle.guard_table.specs.Model.Inside.{tableMost, Sized, RowInside, Inside}
 
 -- ---- inside a table of `count` states
 
@@ -61,6 +62,13 @@ entry-inside {inputs = i} {place = p} {input = x} r l =
       low = l;
       ends = omega (arith, r .ends, entry-of-row i p x);
     }
+
+-- no table is longer than the longest
+pub table-most : (inputs count : ℕ) → inputs ≤ maxInputs → count ≤ maxStates → tableLength inputs count ≤ tableMost
+unfolding tableLength rowLength
+table-most i n m c =
+    let wide : rowLength i ≤ 36 = omega (arith, pow-mono {i = i} {j = maxInputs} m) in
+    omega (arith, mul-le-mul c wide)
 
 -- ---- a row
 

@@ -7,6 +7,10 @@ use lib.ListN.{length}
 use Rattle.records.specs.Meaning.Limits.{maxInputs, maxStates}
 use Rattle.guard_table.specs.Meaning.GuardTable.{entryWidth, rowLength, tableLength, rowAt, entryAt}
 
+-- no table is longer: 256 states with 16 inputs
+abbrev pub tableMost : ℕ
+tableMost = 9_226
+
 -- as long as a table with so many states, which are in bounds
 pub record Sized (t : List ℕ) (inputs count : ℕ) : Type 0 where
   pub inputs-most : inputs ≤ maxInputs

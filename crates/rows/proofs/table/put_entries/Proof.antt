@@ -10,7 +10,7 @@ use Rattle.values.specs.Model.Guard.{chosen}
 use Rattle.values.specs.Model.Numbered.{stepsOf}
 use Rattle.records.specs.Laws.Stores.{Blocks, no-block, same-blocks, more-blocks, all-blocks}
 use Rattle.rows.specs.Model.Entered.{numbered, entryBy}
-use Rattle.guard_table.specs.Meaning.GuardTable.{entryAt}
+use Rattle.guard_table.specs.Meaning.GuardTable.{nextEnd, entryAt}
 use Rattle.guard_table.specs.Laws.GuardTable.{entry-inside}
 use Rattle.rows.proofs.Stores.{entry-stored}
 use Rattle.rows.proofs.table.put_entries.Statement.{statement}
@@ -47,13 +47,13 @@ inside c = let e = args c .pre .0 in omega (arith, digits-lt (e .state) (c .befo
 some : (c : tie.After-follow Inv-loop μ-loop) →
     let a = args c .args in
     (c .follow .result < length (a .numbers .now))
-    × (1 ≤ getD (a .numbers .now) (c .follow .result) 0) × (getD (a .numbers .now) (c .follow .result) 0 ≤ 256)
+    × (1 ≤ getD (a .numbers .now) (c .follow .result) 0) × (getD (a .numbers .now) (c .follow .result) 0 ≤ nextEnd)
 some c =
     let a = args c .args in
     let e = args c .pre .0 in
     let i = c .before .before .loop .i in
     let low = c .before .loop-test .taken in
-    subst (λ (x : ℕ). (x < length (a .numbers .now)) × (1 ≤ getD (a .numbers .now) x 0) × (getD (a .numbers .now) x 0 ≤ 256))
+    subst (λ (x : ℕ). (x < length (a .numbers .now)) × (1 ≤ getD (a .numbers .now) x 0) × (getD (a .numbers .now) x 0 ≤ nextEnd))
     (sym (c .follow .ensures)) (omega (arith, e .low i low, e .room), e .least i low, e .most i low)
 
 loop-holds : tie.Need-loop-holds Inv-loop μ-loop
