@@ -6,13 +6,12 @@ use Prim.Native.Nat.{ℕ, _-_}
 use Rattle.records.specs.Meaning.Bounded.{all}
 use Rattle.records.specs.Meaning.Numbers.{u16At}
 use Rattle.records.specs.Meaning.Limits.{linesOk, horizonOk}
-use Rattle.records.specs.Meaning.GuardTable.{rowLength, tableLength, entryAt, headerIs}
-use Rattle.records.specs.Meaning.GuardTable.{rowAt}
+use Rattle.guard_table.specs.Meaning.GuardTable.{rowLength, tableLength, rowAt, entryAt, headerIs, outputIn, nextIn}
 use Rattle.board.specs.Meaning.Board.{countsOk, live, emptyBoard, runAt}
-use Rattle.tables.specs.Meaning.Loadable.{sizeOk, fieldsOk, headOk, entryOk, entriesOk, rowOk, rowsOk, loadable}
+use Rattle.guard_table.specs.Meaning.Loadable.{sizeOk, fieldsOk, headOk, entryOk, entriesOk, rowOk, rowsOk, loadable}
 use Rattle.board.specs.Meaning.Load.{boardOf, loadOn, loadNumber}
 use Rattle.game.specs.Meaning.Proposal.{proposal, differs, deviates}
-use Rattle.board.specs.Meaning.Step.{outputAt, nextAt, entryFits, moved, lookedUp, stepOn, stepNumber}
+use Rattle.board.specs.Meaning.Step.{entryFits, moved, lookedUp, stepOn, stepNumber}
 
 -- one state, always off
 abbrev off : List ℕ
@@ -35,9 +34,9 @@ pub record Examples : Type 0 where
   pub cut : loadNumber (loadOn emptyBoard (6 ∷ 0 ∷ 16 ∷ 0 ∷ []) .answer) ≡ 11
 
 pub examples : Examples
-unfolding all u16At linesOk horizonOk rowLength tableLength entryAt headerIs rowAt countsOk live emptyBoard runAt
+unfolding all u16At linesOk horizonOk rowLength tableLength entryAt headerIs outputIn nextIn rowAt countsOk live emptyBoard runAt
     sizeOk fieldsOk headOk entryOk entriesOk rowOk rowsOk loadable boardOf loadOn
-    proposal differs deviates outputAt nextAt entryFits moved lookedUp stepOn
+    proposal differs deviates entryFits moved lookedUp stepOn
 examples =
     record {
       loads = refl;

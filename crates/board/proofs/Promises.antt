@@ -8,9 +8,10 @@ use lib.Dec.{leb, ltb, eqb}
 use Rattle.records.specs.Laws.Tests.{by-test}
 use Rattle.records.specs.Meaning.Limits.{maxSteps}
 use Rattle.board.specs.Meaning.Board.{live, emptyBoard, rewindOn, unloadOn, changeNumber, changeRefusal}
-use Rattle.tables.specs.Meaning.Loadable.{loadable}
+use Rattle.guard_table.specs.Meaning.GuardTable.{outputIn}
+use Rattle.guard_table.specs.Meaning.Loadable.{loadable}
 use Rattle.board.specs.Meaning.Load.{loadOn, loadNumber, loadRefusal}
-use Rattle.board.specs.Meaning.Step.{outputAt, entryFits, moved, lookedUp, stepOn, stepNumber, stepOutput, stepRefusal, stepGiven}
+use Rattle.board.specs.Meaning.Step.{entryFits, moved, lookedUp, stepOn, stepNumber, stepOutput, stepRefusal, stepGiven}
 use Rattle.game.specs.Meaning.Book.{load, step, rewind, unload}
 use Rattle.board.specs.Laws.Calls.{empty-board}
 use Rattle.board.specs.Laws.Counting.{counted, keeps-count}
@@ -63,7 +64,7 @@ step-output b t i =
     by-tests _ b t i (λ p. simp p) (λ p q. simp (p, q)) (λ p q r. simp (p, q, r)) (λ p q r f s. simp (p, q, r) (fits f s))
   where
     fits : (f : Bool) → entryFits b t i ≡ f
-        → stepOutput (lookedUp b t i .answer) ≡ cond (eqb (cond (entryFits b t i) 0 11) 0) (outputAt b t i) 0
+        → stepOutput (lookedUp b t i .answer) ≡ cond (eqb (cond (entryFits b t i) 0 11) 0) (outputIn t (b .inputs) (b .place) i) 0
     fits true s = simp s
     fits false s = simp s
 

@@ -6,17 +6,20 @@ use crate::answers::Load;
 use crate::answers::Loading;
 use crate::answers::Step;
 use crate::answers::Stepping;
-use records::layout::Layout;
+use guard_table::entry::entry_in;
+use guard_table::entry::entry_ok;
+use guard_table::layout::Layout;
+use guard_table::loadable::is_loadable;
+use records::limits::Limits;
 use records::limits::lines_ok;
 use records::numbers::pow2;
 use records::numbers::u16_at;
-use tables::entry_ok;
-use tables::is_loadable;
 ghost use mathlib.Core.Path.{_≡_};
 ghost use mathlib.Core.Bool.{true};
 ghost use Prim.Native.Nat.{_-_, _^_, _<_, _≤_};
 ghost use lib.ListN.{length};
 ghost use Rattle.records.specs.Meaning.Limits.{linesOk};
+ghost use Rattle.guard_table.specs.Meaning.GuardTable.{headLength};
 ghost use Rattle.board.specs.Meaning.Board.{countsOk, live, runAt};
 ghost use Rattle.board.specs.Meaning.Load.{boardOf};
 ghost use Rattle.game.specs.Meaning.Proposal.{deviates};
@@ -47,7 +50,7 @@ fn counts_ok(mode: u8, count: u16, place: u16, steps: u32, deviations: u32) -> b
     if count < 1 {
         return false;
     }
-    if Layout::STATES < count as usize {
+    if Limits::STATES < count as usize {
         return false;
     }
     if count <= place {
@@ -76,7 +79,7 @@ fn deviates(mode: u8, inputs: u8, outputs: u8, input: u8, output: u8) -> bool
 
 // The board that a table gives: its head's mode, lines and count, at the start of a run.
 fn board_of(t: &[u8]) -> Board
-    requires { ⌜ 10 ≤ length (now t) ⌝ }
+    requires { ⌜ headLength ≤ length (now t) ⌝ }
     ensures { λ r. ⌜ r ≡ boardOf (now (t .entry)) ⌝ }
 {
     Board {
@@ -170,15 +173,15 @@ impl Board {
         if table.len() != layout.table_length(count) {
             return Stepping::of(self, Step::BadTable);
         }
-        let at = layout.entry_at(self.place as usize, input as usize);
-        if entry_ok(table, at, self.outputs, count) {
-            return self.moved(input, table[at], table[at + 1]);
+        let entry = entry_in(table, self.inputs, self.place as usize, input as usize);
+        if entry_ok(entry, self.outputs, count) {
+            return self.moved(input, entry.output, entry.next);
         }
         Stepping::of(self, Step::BadTable)
     }
 
     // The step of a live board to a next state, with its output.
-    fn moved(self, input: u8, output: u8, next: u8) -> Stepping
+    fn moved(self, input: u8, output: u8, next: u16) -> Stepping
         requires { ⌜ live self ≡ true ⌝ }
         ensures { λ r. ⌜ r ≡ moved self input output next ⌝ }
     {
@@ -187,7 +190,7 @@ impl Board {
             deviations += 1;
         }
         Stepping::of(
-            self.run_at(next as u16, self.steps + 1, deviations),
+            self.run_at(next, self.steps + 1, deviations),
             Step::Output(output),
         )
     }

@@ -1,5 +1,6 @@
 // Reads a sheet on standard input, and prints the listing of its guard, or why there is none.
 use guard::make::Guard;
+use guard_table::layout::Layout;
 use libc::STDIN_FILENO;
 use libc::STDOUT_FILENO;
 use report::Listed;
@@ -35,7 +36,7 @@ fn print_guard(sheet: &[u8], text: &mut [u8]) -> usize
     requires { ⌜ textLength ≤ length (now text) ⌝ }
     ensures { λ r. ⌜ Prints (guardText (now (sheet .entry))) (now (text .entry)) r (now (text .exit)) ⌝ }
 {
-    let mut result = [0u8; 9_226];
+    let mut result = [0u8; Layout::MOST];
     let mut tuples = [0u8; Guard::TUPLES];
     let mut cells = [0u16; Guard::CELLS];
     let mut dropped = [0u16; Guard::DROPPED];

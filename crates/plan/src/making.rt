@@ -1,6 +1,6 @@
 // The maker of guard tables, but for the work memory, which is left as it falls.
 use crate::horizon::plan;
-use records::layout::Layout;
+use guard_table::layout::Layout;
 use records::numbers::pow2;
 use rows::table::write;
 use sheet::layout::Refusal;

@@ -3,7 +3,6 @@ pub mod Bits
 pub mod Bounded
 pub mod Cells
 pub mod Cursor
-pub mod GuardTable
 pub mod Limits
 pub mod Lists
 pub mod Numbers

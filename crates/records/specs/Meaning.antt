@@ -2,7 +2,6 @@
 pub mod Bits
 pub mod Bounded
 pub mod Records
-pub mod GuardTable
 pub mod Limits
 pub mod Lists
 pub mod Numbers

@@ -24,6 +24,9 @@ impl Limits {
     // States of a monitor.
     pub const MONITOR_STATES: u8 = 32;
 
+    // Product states, and so the states of a table.
+    pub const STATES: usize = 256;
+
     // A literal is below this: a line, 8 more if off is preferred.
     pub const LITERAL_END: u8 = 16;
 }

@@ -1,6 +1,6 @@
 // The listing of a guard table, and what is said where there is none, as text.
+use guard_table::loadable::is_loadable;
 use solve::made::Made;
-use tables::is_loadable;
 use text::lengths::listing_length;
 use text::lengths::number_length;
 use text::put_byte;
@@ -8,7 +8,7 @@ use text::put_labelled;
 use text::put_listing;
 use text::put_word;
 ghost use mathlib.Core.Bool.{true};
-ghost use Rattle.tables.specs.Meaning.Loadable.{loadable};
+ghost use Rattle.guard_table.specs.Meaning.Loadable.{loadable};
 ghost use Rattle.text.specs.Meaning.Listing.{listingOf, refusedText, tooLongText};
 ghost use Rattle.report.specs.Promises.Report.{outcomeDue, outcomeText, Writes};
 

@@ -1,5 +1,6 @@
 // How long the pieces of a listing are, so that it is known before any is put.
-use crate::entry_in;
+use guard_table::entry::Entry;
+use guard_table::entry::entry_in;
 use records::numbers::pow2;
 use records::numbers::u16_at;
 ghost use mathlib.Core.Path.{_≡_};
@@ -7,8 +8,9 @@ ghost use Prim.Native.Nat.{_^_, _≤_, _<_};
 ghost use lib.ListN.{length, getD};
 ghost use Rattle.records.specs.Meaning.Lists.{cat};
 ghost use Rattle.records.specs.Meaning.Numbers.{u16At};
+ghost use Rattle.guard_table.specs.Meaning.GuardTable.{headLength, nextEnd};
+ghost use Rattle.guard_table.specs.Model.Inside.{Sized};
 ghost use Rattle.text.specs.Meaning.Listing.{decimal, headLine, entryText, entryOf, rowOf, listingOf};
-ghost use Rattle.text.specs.Model.Put.{Filled};
 
 // A number in decimal: a digit, and one for each time that it can be divided by ten.
 pub fn number_length(n: usize) -> usize
@@ -25,23 +27,24 @@ pub fn number_length(n: usize) -> usize
 }
 
 // An entry: two marks and two numbers.
-pub fn entry_length(output: u8, next: u8) -> usize
-    ensures { λ r. ⌜ (r ≡ length (entryText output next)) × (r ≤ 8) ⌝ }
+pub fn entry_length(entry: Entry) -> usize
+    requires { ⌜ entry .next < nextEnd ⌝ }
+    ensures { λ r. ⌜ (r ≡ length (entryText (entry .output) (entry .next))) × (r ≤ 8) ⌝ }
 {
-    2 + number_length(output as usize) + number_length(next as usize)
+    2 + number_length(entry.output as usize) + number_length(entry.next as usize)
 }
 
 // The entries of a state.
 pub fn entries_length(table: &[u8], inputs: u8, count: usize, k: usize) -> usize
-    requires { ⌜ Filled (now table) inputs count × (k < count) ⌝ }
+    requires { ⌜ Sized (now table) inputs count × (k < count) ⌝ }
     ensures { λ r. ⌜ (r ≡ length (cat (2 ^ inputs) (entryOf (now (table .entry)) inputs k))) × (r ≤ 128) ⌝ }
 {
     let entries = pow2(inputs);
     let mut total: usize = 0;
     let mut i: usize = 0;
     while i < entries {
-        let entry = entry_in(table, inputs, count, k, i);
-        total += entry_length(entry.output, entry.next);
+        let entry = entry_in(table, inputs, k, i);
+        total += entry_length(entry);
         i += 1;
     }
     total
@@ -49,7 +52,7 @@ pub fn entries_length(table: &[u8], inputs: u8, count: usize, k: usize) -> usize
 
 // The line of a state: its number, a colon, the entries, and the end.
 pub fn row_length(table: &[u8], inputs: u8, count: usize, k: usize) -> usize
-    requires { ⌜ Filled (now table) inputs count × (k < count) ⌝ }
+    requires { ⌜ Sized (now table) inputs count × (k < count) ⌝ }
     ensures { λ r. ⌜ (r ≡ length (rowOf (now (table .entry)) inputs k)) × (r ≤ 133) ⌝ }
 {
     2 + number_length(k) + entries_length(table, inputs, count, k)
@@ -57,7 +60,7 @@ pub fn row_length(table: &[u8], inputs: u8, count: usize, k: usize) -> usize
 
 // The lines of the states.
 pub fn rows_length(table: &[u8], inputs: u8, count: usize) -> usize
-    requires { ⌜ Filled (now table) inputs count ⌝ }
+    requires { ⌜ Sized (now table) inputs count ⌝ }
     ensures { λ r. ⌜ (r ≡ length (cat count (rowOf (now (table .entry)) inputs))) × (r ≤ 34_048) ⌝ }
 {
     let mut total: usize = 0;
@@ -83,7 +86,7 @@ pub fn head_length(count: usize, inputs: u8, outputs: u8, horizon: u8) -> usize
 
 // The listing of a table.
 pub fn listing_length(table: &[u8]) -> usize
-    requires { ⌜ (10 ≤ length (now table)) × Filled (now table) (getD (now table) 5 0) (u16At (now table) 8) ⌝ }
+    requires { ⌜ (headLength ≤ length (now table)) × Sized (now table) (getD (now table) 5 0) (u16At (now table) 8) ⌝ }
     ensures { λ r. ⌜ r ≡ length (listingOf (now (table .entry))) ⌝ }
 {
     let inputs = table[5];

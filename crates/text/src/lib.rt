@@ -1,7 +1,8 @@
 // The pieces of a listing. Each is put at a place of the text memory, and answers the place after it.
 pub mod lengths;
 
-use records::layout::Layout;
+use guard_table::entry::Entry;
+use guard_table::entry::entry_in;
 use records::numbers::pow2;
 use records::numbers::u16_at;
 ghost use mathlib.Core.Path.{_≡_};
@@ -10,8 +11,10 @@ ghost use Prim.Native.Nat.{_+_, _^_, _≤_, _<_};
 ghost use lib.ListN.{length, getD};
 ghost use Rattle.records.specs.Meaning.Lists.{cat};
 ghost use Rattle.records.specs.Meaning.Numbers.{u16At};
-ghost use Rattle.text.specs.Meaning.Listing.{decimal, labelled, headLine, entryText, outputIn, nextIn, entryOf, rowOf, listingOf};
-ghost use Rattle.text.specs.Model.Put.{Put, Filled};
+ghost use Rattle.guard_table.specs.Meaning.GuardTable.{headLength, nextEnd};
+ghost use Rattle.guard_table.specs.Model.Inside.{Sized};
+ghost use Rattle.text.specs.Meaning.Listing.{decimal, labelled, headLine, entryText, entryOf, rowOf, listingOf};
+ghost use Rattle.text.specs.Model.Put.{Put};
 
 // One byte.
 pub fn put_byte(text: &mut [u8], at: usize, byte: u8) -> usize
@@ -61,33 +64,14 @@ pub fn put_word(text: &mut [u8], at: usize, word: &[u8]) -> usize
 }
 
 // An entry, ' output>next'.
-pub fn put_entry(text: &mut [u8], at: usize, output: u8, next: u8) -> usize
-    requires { ⌜ at + length (entryText output next) ≤ length (now text) ⌝ }
-    ensures { λ r. ⌜ Put (now (text .entry)) at (entryText output next) r (now (text .exit)) ⌝ }
+pub fn put_entry(text: &mut [u8], at: usize, entry: Entry) -> usize
+    requires { ⌜ (at + length (entryText (entry .output) (entry .next)) ≤ length (now text)) × (entry .next < nextEnd) ⌝ }
+    ensures { λ r. ⌜ Put (now (text .entry)) at (entryText (entry .output) (entry .next)) r (now (text .exit)) ⌝ }
 {
     let start = put_byte(text, at, b' ');
-    let end = put_number(text, start, output as usize);
+    let end = put_number(text, start, entry.output as usize);
     let target = put_byte(text, end, b'>');
-    put_number(text, target, next as usize)
-}
-
-// What a table says of a state and an input.
-pub struct Entry {
-    pub output: u8,
-    pub next: u8,
-}
-
-// The entry of a state and an input.
-pub fn entry_in(table: &[u8], inputs: u8, count: usize, k: usize, i: usize) -> Entry
-    requires { ⌜ Filled (now table) inputs count × ((k < count) × (i < 2 ^ inputs)) ⌝ }
-    ensures { λ r. ⌜ (r .output ≡ outputIn (now (table .entry)) inputs k i) × (r .next ≡ nextIn (now (table .entry)) inputs k i) ⌝ }
-{
-    let layout = Layout { inputs };
-    let at = layout.entry_at(k, i);
-    Entry {
-        output: table[at],
-        next: table[at + 1],
-    }
+    put_number(text, target, entry.next as usize)
 }
 
 // The entries of a state, one for each input.
@@ -99,7 +83,7 @@ pub fn put_entries(
     count: usize,
     k: usize,
 ) -> usize
-    requires { ⌜ Filled (now table) inputs count × (k < count) ⌝ }
+    requires { ⌜ Sized (now table) inputs count × (k < count) ⌝ }
     requires { ⌜ at + length (cat (2 ^ inputs) (entryOf (now table) inputs k)) ≤ length (now text) ⌝ }
     ensures { λ r. ⌜ Put (now (text .entry)) at (cat (2 ^ inputs) (entryOf (now (table .entry)) inputs k)) r (now (text .exit)) ⌝ }
 {
@@ -107,8 +91,8 @@ pub fn put_entries(
     let mut place = at;
     let mut i: usize = 0;
     while i < entries {
-        let entry = entry_in(table, inputs, count, k, i);
-        place = put_entry(text, place, entry.output, entry.next);
+        let entry = entry_in(table, inputs, k, i);
+        place = put_entry(text, place, entry);
         i += 1;
     }
     place
@@ -123,7 +107,7 @@ pub fn put_row(
     count: usize,
     k: usize,
 ) -> usize
-    requires { ⌜ Filled (now table) inputs count × (k < count) ⌝ }
+    requires { ⌜ Sized (now table) inputs count × (k < count) ⌝ }
     requires { ⌜ at + length (rowOf (now table) inputs k) ≤ length (now text) ⌝ }
     ensures { λ r. ⌜ Put (now (text .entry)) at (rowOf (now (table .entry)) inputs k) r (now (text .exit)) ⌝ }
 {
@@ -135,7 +119,7 @@ pub fn put_row(
 
 // The lines of the states.
 pub fn put_rows(text: &mut [u8], at: usize, table: &[u8], inputs: u8, count: usize) -> usize
-    requires { ⌜ Filled (now table) inputs count ⌝ }
+    requires { ⌜ Sized (now table) inputs count ⌝ }
     requires { ⌜ at + length (cat count (rowOf (now table) inputs)) ≤ length (now text) ⌝ }
     ensures { λ r. ⌜ Put (now (text .entry)) at (cat count (rowOf (now (table .entry)) inputs)) r (now (text .exit)) ⌝ }
 {
@@ -171,7 +155,7 @@ pub fn put_head(text: &mut [u8], count: usize, inputs: u8, outputs: u8, horizon:
 
 // The listing of a table.
 pub fn put_listing(text: &mut [u8], table: &[u8]) -> usize
-    requires { ⌜ (10 ≤ length (now table)) × Filled (now table) (getD (now table) 5 0) (u16At (now table) 8) ⌝ }
+    requires { ⌜ (headLength ≤ length (now table)) × Sized (now table) (getD (now table) 5 0) (u16At (now table) 8) ⌝ }
     requires { ⌜ length (listingOf (now table)) ≤ length (now text) ⌝ }
     ensures { λ r. ⌜ Put (now (text .entry)) 0 (listingOf (now (table .entry))) r (now (text .exit)) ⌝ }
 {

@@ -13,14 +13,14 @@ use borrow.Author.Tests.{leb-false, ltb-true, lt-ltb, le-ltb, lt-leb, le-leb, eq
 use Rattle.records.specs.Laws.Tests.{and-left, and-right, and-both, by-test}
 use Rattle.records.specs.Meaning.Numbers.{u16At}
 use Rattle.records.specs.Meaning.Limits.{maxSteps}
-use Rattle.records.specs.Meaning.GuardTable.{tableLength, entryAt}
+use Rattle.guard_table.specs.Meaning.GuardTable.{tableLength, outputIn, nextIn}
 use Rattle.game.specs.Meaning.Proposal.{proposal, deviates}
 use Rattle.game.specs.Meaning.Book.{Call, load, step, rewind, unload}
 use Rattle.board.specs.Meaning.Board.{live, emptyBoard, runAt, rewindOn, unloadOn}
-use Rattle.tables.specs.Meaning.Loadable.{entryOk, loadable}
-use Rattle.tables.specs.Laws.Facts.{loadable-head, loadable-entry}
+use Rattle.guard_table.specs.Meaning.Loadable.{entryOk, loadable}
+use Rattle.guard_table.specs.Laws.Facts.{loadable-head, loadable-entry}
 use Rattle.board.specs.Meaning.Load.{boardOf, loadOn}
-use Rattle.board.specs.Meaning.Step.{outputAt, nextAt, entryFits, moved, lookedUp, stepOn, stepNumber, stepRefusal}
+use Rattle.board.specs.Meaning.Step.{entryFits, moved, lookedUp, stepOn, stepNumber, stepRefusal}
 use Rattle.board.specs.Meaning.Calls.{after}
 use Rattle.board.specs.Laws.Facts.{live-facts, facts-live}
 use Rattle.board.specs.declared.Board.{Board}
@@ -115,8 +115,8 @@ proposal-of s l p h = rw (add-comm l (2 ^ s * p), mul-comm (2 ^ s) p) (high p s 
 
 -- a step looks at the slice's length and at the entry's two bytes, and at nothing else of the slice
 pub step-reads : (b : Board) (t u : List ℕ) (i : ℕ) → length t ≡ length u
-    → outputAt b t i ≡ outputAt b u i → nextAt b t i ≡ nextAt b u i → stepOn b t i ≡ stepOn b u i
-unfolding stepOn lookedUp entryFits entryOk outputAt nextAt
+    → outputIn t (b .inputs) (b .place) i ≡ outputIn u (b .inputs) (b .place) i → nextIn t (b .inputs) (b .place) i ≡ nextIn u (b .inputs) (b .place) i → stepOn b t i ≡ stepOn b u i
+unfolding stepOn lookedUp entryFits entryOk
 step-reads b t u i l o n = rw (l, o, n)
 
 -- ---- a live board
@@ -142,7 +142,7 @@ run-live b p s d e h k l m =
 -- what a step of a live board does: it is refused, with the same board, or it moves by the entry
 pub data StepCase (b : Board) (t : List ℕ) (i : ℕ) : Type 0 where
   refused : (a : Step) → eqb (stepNumber a) 0 ≡ false → stepOn b t i ≡ record { board = b; answer = a } → StepCase b t i
-  taken : b .steps < maxSteps → entryFits b t i ≡ true → stepOn b t i ≡ moved b i (outputAt b t i) (nextAt b t i) → StepCase b t i
+  taken : b .steps < maxSteps → entryFits b t i ≡ true → stepOn b t i ≡ moved b i (outputIn t (b .inputs) (b .place) i) (nextIn t (b .inputs) (b .place) i) → StepCase b t i
 
 -- outside mode 1 nothing deviates
 never-deviates : (mode site input output : ℕ) → mode ≡ 0 → deviates mode site input output ≡ false
@@ -154,9 +154,9 @@ flag-most true = omega arith
 flag-most false = omega arith
 
 -- an entry in range leads to a state of the table
-next-inside : (b : Board) (t : List ℕ) (i : ℕ) → entryFits b t i ≡ true → nextAt b t i < b .count
-unfolding entryFits entryOk nextAt
-next-inside b t i f = ltb-true (nextAt b t i) (b .count) (search (and-left, and-right))
+next-inside : (b : Board) (t : List ℕ) (i : ℕ) → entryFits b t i ≡ true → nextIn t (b .inputs) (b .place) i < b .count
+unfolding entryFits entryOk
+next-inside b t i f = ltb-true (nextIn t (b .inputs) (b .place) i) (b .count) (search (and-left, and-right))
 
 module _ (b : Board) (e : live b ≡ true) where
   -- every load is refused 21, with the same board
@@ -208,7 +208,7 @@ module _ (b : Board) (e : live b ≡ true) where
   step-live t i =
       elim (step-case t i) [
         | refused a n q ↦ rw q e
-        | taken s f q ↦ rw q (moved-live i (outputAt b t i) (nextAt b t i) s (next-inside b t i f))
+        | taken s f q ↦ rw q (moved-live i (outputIn t (b .inputs) (b .place) i) (nextIn t (b .inputs) (b .place) i) s (next-inside b t i f))
       ]
 
   -- only unload empties it
@@ -235,7 +235,7 @@ module _ (b : Board) (e : live b ≡ true) where
     entry-fits h = fits (b .inputs) (b .outputs) (b .count) (s .inputs) (s .outputs) (s .count) (live-facts b e .place) h
       where
         fits : (inputs outputs count : ℕ) → inputs ≡ getD t 5 0 → outputs ≡ getD t 6 0 → count ≡ u16At t 8 → b .place < count
-            → i < 2 ^ inputs → (eqb (length t) (tableLength inputs count) && entryOk t (entryAt inputs (b .place) i) outputs count) ≡ true
+            → i < 2 ^ inputs → (eqb (length t) (tableLength inputs count) && entryOk (outputIn t inputs (b .place) i) (nextIn t inputs (b .place) i) outputs count) ≡ true
         fits n o k p q r h m =
             rw (p, q, r)
             (and-both _ _ (eq-eqb _ _ (loadable-head t l .fills)) (loadable-entry t l (b .place) i (rw r at h) (rw p at m)))
@@ -247,6 +247,6 @@ module _ (b : Board) (e : live b ≡ true) where
         by-test (ltb i (2 ^ b .inputs)) (λ q. simp (e, q, entry-fits (ltb-true _ _ q))) (λ q. simp (e, q))
 
     -- else it gives the entry's output and moves to its next state, one step on, with one deviation more iff it deviates
-    pub step-taken : b .steps < maxSteps → i < 2 ^ b .inputs → stepOn b t i ≡ moved b i (outputAt b t i) (nextAt b t i)
+    pub step-taken : b .steps < maxSteps → i < 2 ^ b .inputs → stepOn b t i ≡ moved b i (outputIn t (b .inputs) (b .place) i) (nextIn t (b .inputs) (b .place) i)
     unfolding stepOn lookedUp
     step-taken h k = simp (e, lt-leb _ _ h, lt-ltb _ _ k, entry-fits k)

@@ -9,9 +9,10 @@ use lib.Dec.{eqb}
 use Rattle.records.specs.Laws.Tests.{both-ways, by-test}
 use Rattle.game.specs.Meaning.Book.{Call, load, step, rewind, unload, Answer}
 use Rattle.board.specs.Meaning.Board.{live, emptyBoard, runAt}
-use Rattle.tables.specs.Meaning.Loadable.{loadable}
+use Rattle.guard_table.specs.Meaning.GuardTable.{outputIn, nextIn}
+use Rattle.guard_table.specs.Meaning.Loadable.{loadable}
 use Rattle.board.specs.Meaning.Load.{boardOf}
-use Rattle.board.specs.Meaning.Step.{outputAt, nextAt, moved}
+use Rattle.board.specs.Meaning.Step.{moved}
 use Rattle.board.specs.Meaning.Calls.{loadSays, stepSays, changeSays, after, says}
 use Rattle.board.specs.Meaning.History.{Event, last, history, runOf, Counts, KeepsCount}
 use Rattle.board.specs.Laws.Calls.{empty-board, load-empty, load-bad, step-empty, rewind-empty, unload-empty, load-occupied, rewind-live, unload-live, step-case, refused, taken}
@@ -58,7 +59,7 @@ counts-on b (step t i) es h =
     by-test (live b)
     (λ e. elim (step-case b e t i) [
       | refused a n q ↦ subst Kept (sym q) (pass b es (step t i) (stepSays (record { board = b; answer = a })) n h)
-      | taken s f q ↦ subst Kept (sym q) (count-taken b t i (outputAt b t i) (nextAt b t i) es e h)
+      | taken s f q ↦ subst Kept (sym q) (count-taken b t i (outputIn t (b .inputs) (b .place) i) (nextIn t (b .inputs) (b .place) i) es e h)
     ])
     (λ e. subst Kept (sym (step-empty b e t i)) h)
 counts-on b rewind es h =

@@ -4,13 +4,12 @@ use mathlib.Core.Path.{_≡_, sym, ap, ap₂, subst, _∙_}
 use mathlib.Core.Bool.{true}
 use mathlib.Core.List.{List}
 use Prim.Native.Nat.{ℕ, _+_, _^_, _≤_, _<_}
-use lib.ListN.{getD}
 use Rattle.records.specs.Meaning.Limits.{maxStates, maxSteps, linesOk, horizonOk}
-use Rattle.records.specs.Meaning.GuardTable.{entryAt, guardTable}
-use Rattle.records.specs.Laws.GuardTable.{HeadReads, table-head, entry-output, entry-next}
-use Rattle.tables.specs.Laws.Guard.{guard-loadable}
+use Rattle.guard_table.specs.Meaning.GuardTable.{outputIn, nextIn, guardTable}
+use Rattle.guard_table.specs.Laws.GuardTable.{HeadReads, table-head, entry-output, entry-next}
+use Rattle.guard_table.specs.Laws.Guard.{guard-loadable}
 use Rattle.board.specs.Meaning.Board.{live}
-use Rattle.board.specs.Meaning.Step.{outputAt, nextAt, moved, stepOn}
+use Rattle.board.specs.Meaning.Step.{moved, stepOn}
 use Rattle.board.specs.Laws.Facts.{live-facts}
 use Rattle.board.specs.Laws.Calls.{Shows, step-taken}
 use Rattle.board.specs.declared.Board.{Board}
@@ -28,19 +27,6 @@ module _
     reads : HeadReads table mode inputs outputs horizon count
     reads = table-head mode inputs outputs horizon count out next
 
-    -- a board at one of its states reads the given entries
-    output-at : (b : Board) (i : ℕ) → b .inputs ≡ inputs → b .place < count → i < 2 ^ inputs → outputAt b table i ≡ out (b .place) i
-    unfolding outputAt
-    output-at b i q k l =
-        ap (λ (n : ℕ). getD table (entryAt n (b .place) i) 0) q
-        ∙ entry-output mode inputs outputs horizon count out next (b .place) k i l
-
-    next-at : (b : Board) (i : ℕ) → b .inputs ≡ inputs → b .place < count → i < 2 ^ inputs → nextAt b table i ≡ next (b .place) i
-    unfolding nextAt
-    next-at b i q k l =
-        ap (λ (n : ℕ). getD table (entryAt n (b .place) i + 1) 0) q
-        ∙ entry-next mode inputs outputs horizon count out next (b .place) k i l
-
     -- a step of a live board that holds it goes by the given entries
     pub guard-step : (b : Board) → live b ≡ true → Shows b table → b .steps < maxSteps → (i : ℕ) → i < 2 ^ inputs
         → stepOn b table i ≡ moved b i (out (b .place) i) (next (b .place) i)
@@ -48,4 +34,6 @@ module _
         let same : b .inputs ≡ inputs = s .inputs ∙ reads .inputs-is in
         let k : b .place < count = subst (λ (n : ℕ). b .place < n) (s .count ∙ reads .count-is) (live-facts b e .place) in
         step-taken b e table (guard-loadable mode inputs outputs horizon count out next lines far some most outs nexts) s i h (subst (λ (n : ℕ). i < 2 ^ n) (sym same) l)
-        ∙ ap₂ (moved b i) (output-at b i same k l) (next-at b i same k l)
+        ∙ ap₂ (moved b i)
+        (ap (λ (n : ℕ). outputIn table n (b .place) i) same ∙ entry-output mode inputs outputs horizon count out next (b .place) k i l)
+        (ap (λ (n : ℕ). nextIn table n (b .place) i) same ∙ entry-next mode inputs outputs horizon count out next (b .place) k i l)

@@ -5,7 +5,7 @@ use mathlib.Core.List.{List}
 use Prim.Native.Nat.{ℕ}
 use lib.ListN.{getD}
 use Rattle.records.specs.Meaning.Numbers.{u16At}
-use Rattle.tables.specs.Meaning.Loadable.{loadable}
+use Rattle.guard_table.specs.Meaning.Loadable.{loadable}
 use Rattle.board.specs.Meaning.Board.{live}
 use Rattle.board.specs.declared.Board.{Board}
 use Rattle.board.specs.declared.answers.Load.{Load}

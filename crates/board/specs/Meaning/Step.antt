@@ -4,12 +4,12 @@ use mathlib.Core.Bool.{Bool, cond, _&&_}
 use mathlib.Core.List.{List}
 use Prim.Native.Nat.{ℕ, _+_, _-_, _^_}
 use lib.Dec.{ltb, leb, eqb}
-use lib.ListN.{length, getD}
+use lib.ListN.{length}
 use Rattle.records.specs.Meaning.Limits.{maxSteps}
-use Rattle.records.specs.Meaning.GuardTable.{tableLength, entryAt}
+use Rattle.guard_table.specs.Meaning.GuardTable.{tableLength, outputIn, nextIn}
 use Rattle.game.specs.Meaning.Proposal.{deviates}
 use Rattle.board.specs.Meaning.Board.{live, runAt}
-use Rattle.tables.specs.Meaning.Loadable.{entryOk}
+use Rattle.guard_table.specs.Meaning.Loadable.{entryOk}
 use Rattle.board.specs.declared.Board.{Board}
 use Rattle.board.specs.declared.answers.Step.{Step}
 use Rattle.board.specs.declared.answers.Step.the-variants.{Output, Empty, Spent, BadInput, BadTable}
@@ -19,17 +19,11 @@ use Rattle.board.specs.declared.answers.Stepping.{Stepping}
 abbrev pub siteOf : Board → ℕ
 siteOf b = b .inputs - b .outputs
 
--- the entry that a step reads: its output, and its next state
-unfoldable pub outputAt : Board → List ℕ → ℕ → ℕ
-outputAt b t input = getD t (entryAt (b .inputs) (b .place) input) 0
-
-unfoldable pub nextAt : Board → List ℕ → ℕ → ℕ
-nextAt b t input = getD t (entryAt (b .inputs) (b .place) input + 1) 0
-
--- the slice is as long as the board's table, and the entry is in range
+-- the slice is as long as the board's table, and the entry of the board's place at the input is in range
 unfoldable pub entryFits : Board → List ℕ → ℕ → Bool
 entryFits b t input =
-    eqb (length t) (tableLength (b .inputs) (b .count)) && entryOk t (entryAt (b .inputs) (b .place) input) (b .outputs) (b .count)
+    eqb (length t) (tableLength (b .inputs) (b .count))
+    && entryOk (outputIn t (b .inputs) (b .place) input) (nextIn t (b .inputs) (b .place) input) (b .outputs) (b .count)
 
 -- a step with this output to this next state
 unfoldable pub moved : Board → ℕ → ℕ → ℕ → Stepping
@@ -42,7 +36,8 @@ moved b input output next =
 -- a step of a live board that has steps left, at an input in range
 unfoldable pub lookedUp : Board → List ℕ → ℕ → Stepping
 lookedUp b t input =
-    cond (entryFits b t input) (moved b input (outputAt b t input) (nextAt b t input)) (record { board = b; answer = BadTable })
+    cond (entryFits b t input) (moved b input (outputIn t (b .inputs) (b .place) input) (nextIn t (b .inputs) (b .place) input))
+    (record { board = b; answer = BadTable })
 
 unfoldable pub stepOn : Board → List ℕ → ℕ → Stepping
 stepOn b t input =
@@ -74,4 +69,4 @@ stepRefusal b t input =
 
 -- the output that is due: the entry's, 0 on a refusal
 unfoldable pub stepGiven : Board → List ℕ → ℕ → ℕ
-stepGiven b t input = cond (eqb (stepRefusal b t input) 0) (outputAt b t input) 0
+stepGiven b t input = cond (eqb (stepRefusal b t input) 0) (outputIn t (b .inputs) (b .place) input) 0

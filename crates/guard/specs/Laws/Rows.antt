@@ -2,15 +2,14 @@
 -- Assumes nothing.
 use mathlib.Core.Path.{_≡_, refl, sym, ap, _∙_, subst}
 use mathlib.Core.Bool.{true}
-use mathlib.Core.List.{List, _++_}
-use Prim.Native.Nat.{ℕ, _*_, _≤_, _<_}
+use mathlib.Core.List.{List}
+use Prim.Native.Nat.{ℕ, _≤_, _<_}
 use native.Mathlib.Omega.{arith}
 use lib.Dec.{eqb}
 use lib.ListN.{length, getD}
 use Rattle.records.specs.Meaning.Limits.{maxStates}
-use Rattle.records.specs.Laws.Lists.{length-tab, cat-ext}
-use Rattle.records.specs.Meaning.Records.{header}
-use Rattle.records.specs.Meaning.GuardTable.{rowLength, tableLength, guardRow, guardTable}
+use Rattle.records.specs.Laws.Lists.{length-tab}
+use Rattle.guard_table.specs.Laws.GuardTable.{table-ext}
 use Rattle.sheet.specs.Meaning.Decoded.{Decoded, SheetOk, inputLines}
 use Rattle.product.specs.Meaning.Step.{inputsOf, advance, firstTuple}
 use Rattle.product.specs.Model.Numbered.{stateCount, stateOf, numberOf}
@@ -121,7 +120,7 @@ module _ (d : Decoded) (ok : SheetOk d) (fits : stateCount d ≤ maxStates) (rea
         output = outputOf d h;
         next = nextOf d h;
         bytes = unfold guardOver in refl;
-        size = unfold tableLength rowLength in length-over d h;
+        size = length-over d h;
         moves = λ k i l hi. r .moves k i l (winning k l) hi;
         next-low = λ k i l hi. r .low k i l (winning k l) hi;
         lands = λ k i l hi. r .lands k i l (winning k l) hi;
@@ -189,9 +188,7 @@ module _ (d : Decoded) (ok : SheetOk d) (fits : stateCount d ≤ maxStates) (rea
 
     -- two tables with these rows are one
     pub only-rows : (n ≡ m) × (t ≡ u)
-    unfolding guardTable guardRow
     only-rows =
-        let rows = cat-ext n (λ k. guardRow (inputLines d) (x .output k) (x .next k)) (λ k. guardRow (inputLines d) (y .output k) (y .next k))
-        (λ k hn. ap (λ (l : List ℕ). header (2 * inputsOf d) 17 ++ l)
-        (cat-ext (inputsOf d) _ _ (λ i hi. rw (same-output k i hn hi, same-next k i hn hi)))) in
-        (same-count, x .bytes ∙ rw (rows, same-count) (sym (y .bytes)))
+        let entries = table-ext (d .mode) (inputLines d) (d .outputs) h n (x .output) (x .next) (y .output) (y .next)
+        (λ k i hn hi. same-output k i hn hi) (λ k i hn hi. same-next k i hn hi) in
+        (same-count, x .bytes ∙ entries ∙ rw same-count (sym (y .bytes)))

@@ -10,7 +10,7 @@ use lib.ListN.{length}
 use borrow.Author.Tests.{eqb-true, eqb-false, le-leb}
 use Rattle.records.specs.Laws.Tests.{by-test, or-left, or-right}
 use Rattle.records.specs.Meaning.Limits.{maxStates, maxSteps, linesOk, horizonOk}
-use Rattle.records.specs.Laws.GuardTable.{HeadReads, table-head}
+use Rattle.guard_table.specs.Laws.GuardTable.{HeadReads, table-head}
 use Rattle.sheet.specs.Meaning.Decoded as decoded
 use Rattle.sheet.specs.Meaning.Decoded.{Decoded, HeadOk, inputLines}
 use Rattle.product.specs.Meaning.Step.{inputsOf}
@@ -22,12 +22,12 @@ use Rattle.game.specs.Model.Machine.{RunsTable}
 use Rattle.rounds.specs.Model.Rounds.{isIn}
 use Rattle.solve.specs.Model.Steps.{droppedOf}
 use Rattle.board.specs.Meaning.Board.{live, runAt, rewindOn, unloadOn}
-use Rattle.tables.specs.Meaning.Loadable.{loadable}
+use Rattle.guard_table.specs.Meaning.Loadable.{loadable}
 use Rattle.board.specs.Meaning.Load.{boardOf, loadOn}
 use Rattle.board.specs.Meaning.Step.{moved, stepOn}
 use Rattle.board.specs.Meaning.Calls.{loadSays, stepSays, changeSays, after, says}
 use Rattle.board.specs.Laws.Calls as laws
-use Rattle.tables.specs.Laws.Guard.{guard-loadable}
+use Rattle.guard_table.specs.Laws.Guard.{guard-loadable}
 use Rattle.board.specs.Laws.Guard.{guard-step}
 use Rattle.board.specs.declared.Board.{Board}
 use Rattle.board.specs.declared.answers.Loading.{Loading}

@@ -6,7 +6,7 @@ use mathlib.Core.List.{List}
 use Prim.Native.Nat.{ℕ, _+_, _*_, _≤_, _<_}
 use lib.Dec.{leb}
 use lib.ListN.{length, getD, take}
-use Rattle.records.specs.Meaning.GuardTable.{guardTable}
+use Rattle.guard_table.specs.Meaning.GuardTable.{tableLength, guardTable}
 use Rattle.sheet.specs.Meaning.Decoded.{Decoded, inputLines}
 use Rattle.product.specs.Meaning.Step.{inputsOf, advance, firstTuple}
 use Rattle.solve.specs.Meaning.Allowed.{Accepted}
@@ -70,7 +70,7 @@ pub record Rows (d : Decoded) (h n : ℕ) (table : List ℕ) : Type 0 where
   pub output : ℕ → ℕ → ℕ
   pub next : ℕ → ℕ → ℕ
   pub bytes : table ≡ guardTable (d .mode) (inputLines d) (d .outputs) h n output next
-  pub size : length table ≡ 10 + n * (4 + 2 * inputsOf d)
+  pub size : length table ≡ tableLength (inputLines d) n
   -- the output is the move at the row's tuple and the input, and the next state is the tuple after it
   pub moves : (k i : ℕ) → k < n → i < inputsOf d → Move d h (getD tuples k (firstTuple d)) i (output k i)
   pub next-low : (k i : ℕ) → k < n → i < inputsOf d → next k i < n

@@ -4,18 +4,17 @@ use mathlib.Core.Path.{_≡_, refl, sym, ap, ap₂, _∙_}
 use mathlib.Core.Bool.{Bool, true, false, cond}
 use mathlib.Core.List.{List}
 use Prim.Native.Nat.{ℕ, zero, suc, _+_, _*_, _^_, _≤_, _<_}
-use native.Mathlib.Nat.{mul-le-mul}
 use native.Mathlib.Omega.{arith}
 use lib.Dec.{ltb, eqb}
 use lib.ListN.{length, take}
-use lib.Pow.{pow-mono}
 use lib.Seq.{sets, length-sets, take-append-seam}
 use borrow.Author.Tests.{ltb-false, le-leb, lt-leb, ne-eqb}
 use Rattle.records.specs.Laws.Tests.{by-test}
 use Rattle.records.specs.Meaning.Limits.{maxStates}
 use Rattle.records.specs.Laws.Lists.{sets-front}
 use Rattle.records.specs.Meaning.Numbers.{Bytes}
-use Rattle.records.specs.Meaning.GuardTable.{rowLength, tableLength}
+use Rattle.guard_table.specs.Model.Inside.{tableMost}
+use Rattle.guard_table.specs.Laws.GuardTable.{table-most}
 use Rattle.sheet.specs.Meaning.Decoded.{Decoded, SheetOk, inputLines}
 use Rattle.sheet.specs.Meaning.Grounds.{groundNumber}
 use Rattle.sheet.specs.Laws.Grounds.{some-number}
@@ -29,7 +28,7 @@ use Rattle.solve.specs.Model.Making.{sheetOf, manyNumber, lostNumber, roomNumbe
 use Rattle.supervisor.specs.Promises.Supervisor.{tuplesLength, cellsLength, droppedLength}
 use Rattle.solve.specs.declared.made.Made.{Made}
 use Rattle.solve.specs.declared.made.Made.the-variants.{Table, Refused}
-use Rattle.tables.specs.Meaning.Loadable.{loadable}
+use Rattle.guard_table.specs.Meaning.Loadable.{loadable}
 use Rattle.plan.specs.Model.Table.{outputOf, nextOf, guardOver, guardTableOf, statesOf}
 use Rattle.guard.specs.Promises.Guard.{gainsLength, bonusesLength, valuesLength, choicesLength, orderLength, Work, workOk, MakesGuard}
 use Rattle.guard.specs.Model.Lent.{Long}
@@ -41,7 +40,7 @@ use Rattle.text.specs.Meaning.Listing.{listing, listingOf, tooLongText}
 use Rattle.report.specs.Promises.Report.{Writes, textLength, outcomeDue, outcomeText, listedLength}
 use Rattle.report.specs.Laws.Answers.{writes-fits, outcome-most, listing-made}
 use Rattle.report.specs.declared.Listed.{Listed}
-use Rattle.listing.specs.Model.Printed.{sheetMost, tableMost, sheetGround, guardText, printed, Prints}
+use Rattle.listing.specs.Model.Printed.{sheetMost, sheetGround, guardText, printed, Prints}
 
 -- ---- a sheet that is accepted
 
@@ -76,12 +75,10 @@ module _ (s : List ℕ) (bytes : Bytes s) (none : sheetNumber s ≡ 0) where
 
     -- and fits the result memory
     short : length (guardTableOf (sheetOf s)) ≤ tableMost
-    unfolding tableLength rowLength
     short =
         let d = sheetOf s in
-        let few : statesOf d ≤ 256 = omega (arith, guard-fits d fits (d .horizon) start) in
-        let wide : 4 + 2 * 2 ^ inputLines d ≤ 36 = omega (arith, pow-mono {i = inputLines d} {j = 4} (ok .head .inputs)) in
-        omega (arith, length-guard d, mul-le-mul few wide)
+        let few : statesOf d ≤ maxStates = omega (arith, guard-fits d fits (d .horizon) start) in
+        omega (arith, length-guard d, table-most (inputLines d) (statesOf d) (ok .head .inputs) few)
 
 -- ---- the listing of a sheet's guard table is that of the model's entries
 

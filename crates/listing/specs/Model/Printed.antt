@@ -16,10 +16,6 @@ use Rattle.text.specs.Meaning.Listing.{listingOf, refusedText, tooLongText}
 abbrev pub sheetMost : ℕ
 sheetMost = 16_384
 
--- no guard table is longer: 256 states with 16 inputs
-abbrev pub tableMost : ℕ
-tableMost = 9_226
-
 -- the ground for which a sheet is not accepted, 0 for none: 1 to 6, then 7, then 8
 unfoldable pub sheetGround : List ℕ → ℕ
 sheetGround s = firstNumber (sheetNumber s) (firstNumber (manyNumber (sheetOf s)) (lostNumber (sheetOf s)))

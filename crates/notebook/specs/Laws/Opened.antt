@@ -8,7 +8,7 @@ use Rattle.records.specs.Meaning.Lists.{tab, cat}
 use Rattle.records.specs.Model.Lists.{put}
 use Rattle.records.specs.Meaning.Numbers.{u16At}
 use Rattle.records.specs.Meaning.Records.{readAt}
-use Rattle.records.specs.Meaning.GuardTable.{rowLength, tableLength, entryAt, headerIs, guardRow, guardTable, rowAt}
+use Rattle.guard_table.specs.Meaning.GuardTable.{rowLength, tableLength, rowAt, entryAt, headerIs, outputIn, nextIn, guardRow, guardTable}
 use Rattle.game.specs.Model.Numbering.{explore, visit, met, meet, add, find}
 use Rattle.game.specs.Model.Choice.{before, against, leader, choose}
 use Rattle.sheet.specs.Meaning.Decoded.{inputsOf, lettersOf, encode, encodeHead, encodeMonitor}
@@ -39,11 +39,11 @@ use Rattle.values.specs.Model.Guard.{chosen, follows, guardStates, guardNumber}
 use Rattle.plan.specs.Model.Table as guard
 use Rattle.plan.specs.Model.Table.{gainsOf, bonusesOf, gameOf, valuesOf, choicesOf, guardOf, guardCount, outputOf, guardOver, guardTableOf}
 use Rattle.board.specs.Meaning.Board.{countsOk, live, emptyBoard, runAt}
-use Rattle.tables.specs.Meaning.Loadable as table
-use Rattle.tables.specs.Meaning.Loadable.{sizeOk, fieldsOk, entryOk, entriesOk, rowOk, rowsOk, loadable}
+use Rattle.guard_table.specs.Meaning.Loadable as table
+use Rattle.guard_table.specs.Meaning.Loadable.{sizeOk, fieldsOk, entryOk, entriesOk, rowOk, rowsOk, loadable}
 use Rattle.board.specs.Meaning.Load.{boardOf, loadOn}
 use Rattle.board.specs.Meaning.Step as board
-use Rattle.board.specs.Meaning.Step.{outputAt, nextAt, entryFits, lookedUp, stepOn}
+use Rattle.board.specs.Meaning.Step.{entryFits, lookedUp, stepOn}
 use Rattle.notebook.specs.Model.Row.{isAbove, isOrdered, test, tests}
 use Rattle.notebook.specs.Model.Figures.{scoresOf, outputsFrom, boardFrom, outputs, deviations}
 
@@ -76,6 +76,6 @@ guards = tt
 
 -- load and step
 unfoldable pub boards : Unit {0}
-unfolding lists rowLength tableLength entryAt headerIs rowAt countsOk live emptyBoard runAt sizeOk fieldsOk table.headOk entryOk entriesOk rowOk rowsOk
-    loadable boardOf loadOn proposal differs deviates outputAt nextAt entryFits board.moved lookedUp stepOn outputsFrom boardFrom outputs deviations
+unfolding lists rowLength tableLength rowAt entryAt headerIs outputIn nextIn countsOk live emptyBoard runAt sizeOk fieldsOk table.headOk entryOk entriesOk rowOk rowsOk
+    loadable boardOf loadOn proposal differs deviates entryFits board.moved lookedUp stepOn outputsFrom boardFrom outputs deviations
 boards = tt

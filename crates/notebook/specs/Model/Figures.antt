@@ -4,6 +4,7 @@ use mathlib.Core.Bool.{true}
 use mathlib.Core.List.{List, [], _∷_}
 use Prim.Native.Nat.{ℕ, _^_}
 use Rattle.records.specs.Meaning.Lists.{tab}
+use Rattle.guard_table.specs.Model.Inside.{tableMost}
 use Rattle.sheet.specs.Meaning.Decoded.{Decoded}
 use Rattle.product.specs.Meaning.Step.{inputsOf, outputsOf}
 use Rattle.product.specs.Model.Numbered.{stateCount}
@@ -20,7 +21,7 @@ use Rattle.plan.specs.Model.Table.{gameOf, valuesOf, guardTableOf}
 
 -- result memory for the longest guard table; no supervisor table is longer
 abbrev pub room : ℕ
-room = 9226
+room = tableMost
 
 -- their numbers, with enough work memory
 abbrev pub supervisorNumber : List ℕ → ℕ

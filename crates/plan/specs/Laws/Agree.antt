@@ -3,7 +3,7 @@
 -- Assumes nothing.
 use mathlib.Core.Path.{_≡_, sym, ap, ap₂, _∙_, subst, subst₃}
 use mathlib.Core.Bool.{true, cond, not}
-use mathlib.Core.List.{List, [], _∷_, _++_}
+use mathlib.Core.List.{List}
 use Prim.Native.Nat.{ℕ, zero, suc, _+_, _*_, _^_, _/_, _%_, _≤_, _<_}
 use native.Mathlib.Omega.{arith}
 use native.Mathlib.Nat.{mod-lt, div-lt-iff-lt-mul, div-add-mod'}
@@ -13,10 +13,8 @@ use borrow.Author.Tests.{eqb-false, not-true}
 use Rattle.records.specs.Laws.Tests.{and-left}
 use Rattle.records.specs.Meaning.Limits.{maxStates}
 use Rattle.records.specs.Laws.Bounded.{sum-cong, top-cong}
-use Rattle.records.specs.Laws.Lists.{cat-ext, getD-put-front}
-use Rattle.records.specs.Meaning.Numbers.{zeros, u16Bytes}
-use Rattle.records.specs.Meaning.Records.{header}
-use Rattle.records.specs.Meaning.GuardTable.{entryWidth, guardRow, guardTable}
+use Rattle.records.specs.Laws.Lists.{getD-put-front}
+use Rattle.records.specs.Meaning.Numbers.{zeros}
 use Rattle.sheet.specs.Meaning.Decoded.{Decoded}
 use Rattle.product.specs.Meaning.Step.{inputsOf, outputsOf}
 use Rattle.product.specs.Model.Numbered.{stateCount}
@@ -118,20 +116,6 @@ module _
         getD-put-front memory n _ k 0 h (omega arith)
         ∙ worth-agree _ _ (row-agree memory others room other-room p) (g .inputs ^ p) k h
         ∙ sym (getD-put-front others n _ k 0 h (omega arith))
-
--- ---- tables with the same entries
-
-pub table-ext : (mode inputs outputs horizon count : ℕ) (out next out′ next′ : ℕ → ℕ → ℕ)
-    → ((k i : ℕ) → k < count → i < 2 ^ inputs → out k i ≡ out′ k i)
-    → ((k i : ℕ) → k < count → i < 2 ^ inputs → next k i ≡ next′ k i)
-    → guardTable mode inputs outputs horizon count out next ≡ guardTable mode inputs outputs horizon count out′ next′
-unfolding guardTable guardRow
-table-ext mode inputs outputs horizon count out next out′ next′ e f =
-    ap (λ (l : List ℕ). (header 6 16 ++ (mode ∷ inputs ∷ outputs ∷ horizon ∷ u16Bytes count)) ++ l)
-    (cat-ext count _ _ (λ k hk.
-    ap (λ (l : List ℕ). header (entryWidth * 2 ^ inputs) 17 ++ l)
-    (cat-ext (2 ^ inputs) _ _ (λ i hi.
-    ap₂ {C = List ℕ} (λ (a b : ℕ). a ∷ b ∷ []) (e k i hk hi) (f k i hk hi)))))
 
 -- ---- of a sheet
 

@@ -7,8 +7,8 @@ use Prim.Native.Nat.{ℕ, _≤_, _<_}
 use native.Mathlib.Omega.{arith}
 use lib.ListN.{length}
 use lib.Seq.{sets}
-use Rattle.records.specs.Meaning.GuardTable.{tableLength}
-use Rattle.records.specs.Laws.GuardTable.{length-table}
+use Rattle.guard_table.specs.Meaning.GuardTable.{tableLength}
+use Rattle.guard_table.specs.Laws.GuardTable.{length-table}
 use Rattle.sheet.specs.Meaning.Decoded.{Decoded, inputLines}
 use Rattle.sheet.specs.Model.Where.{Fits, decoded}
 use Rattle.sheet.specs.declared.layout.Sheet.{Sheet}

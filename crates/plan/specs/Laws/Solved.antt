@@ -16,7 +16,8 @@ use Rattle.records.specs.Laws.Limits.{horizon-facts}
 use Rattle.records.specs.Laws.Tests.{and-both}
 use Rattle.records.specs.Meaning.Lists.{tab}
 use Rattle.records.specs.Laws.Lists.{getD-tab}
-use Rattle.records.specs.Meaning.GuardTable.{guardTable}
+use Rattle.guard_table.specs.Meaning.GuardTable.{guardTable}
+use Rattle.guard_table.specs.Laws.GuardTable.{table-ext}
 use Rattle.sheet.specs.Meaning.Decoded.{Decoded, SheetOk, HorizonOk, inputLines}
 use Rattle.sheet.specs.Model.Where.{decoded}
 use Rattle.sheet.specs.declared.layout.Sheet.{Sheet}
@@ -35,7 +36,7 @@ use Rattle.values.specs.Model.Guard.{chosen, follows}
 use Rattle.plan.specs.Model.Table as table
 use Rattle.plan.specs.Model.Table.{gainsOf, bonusesOf, gameOf, guardOf, guardCount, outputOf, guardOver}
 use Rattle.plan.specs.Laws.Reaching.{next-low}
-use Rattle.plan.specs.Laws.Agree.{table-ext, Stored, SameGuard, choicesBy}
+use Rattle.plan.specs.Laws.Agree.{Stored, SameGuard, choicesBy}
 
 -- ---- numbers that the code relies on
 

@@ -5,7 +5,7 @@ use Prim.Native.Nat.{ℕ, _*_, _/_, _%_, _^_}
 use lib.ListN.{length, getD}
 use Rattle.records.specs.Meaning.Lists.{tab}
 use Rattle.records.specs.Meaning.Numbers.{zeros}
-use Rattle.records.specs.Meaning.GuardTable.{guardTable}
+use Rattle.guard_table.specs.Meaning.GuardTable.{guardTable}
 use Rattle.sheet.specs.Meaning.Decoded.{Decoded, inputLines}
 use Rattle.product.specs.Meaning.Step.{inputsOf, outputsOf, softReward, weightOf}
 use Rattle.product.specs.Model.Stages.{matchReward}

@@ -15,12 +15,13 @@ use Rattle.records.specs.Meaning.Lists.{cat}
 use Rattle.records.specs.Laws.Lists.{cat-ext}
 use Rattle.records.specs.Meaning.Numbers.{u16At}
 use Rattle.records.specs.Laws.Limits.{lines-facts, horizon-facts}
-use Rattle.records.specs.Meaning.GuardTable.{entryAt, guardTable}
-use Rattle.records.specs.Laws.GuardTable.{table-head, entry-output, entry-next}
-use Rattle.tables.specs.Meaning.Loadable.{loadable, entryOk}
-use Rattle.tables.specs.Laws.Facts.{loadable-head, loadable-entry}
-use Rattle.text.specs.Meaning.Listing.{decimal, lineEnd, headLine, rowText, listing, refusedText, outputIn, nextIn, entryOf, rowOf, listingOf}
-use Rattle.text.specs.Model.Put.{Put, Filled}
+use Rattle.guard_table.specs.Meaning.GuardTable.{headLength, outputIn, nextIn, guardTable}
+use Rattle.guard_table.specs.Laws.GuardTable.{table-head, entry-output, entry-next}
+use Rattle.guard_table.specs.Meaning.Loadable.{loadable, entryOk}
+use Rattle.guard_table.specs.Laws.Facts.{loadable-head, loadable-sized, loadable-entry}
+use Rattle.guard_table.specs.Model.Inside.{Sized}
+use Rattle.text.specs.Meaning.Listing.{decimal, lineEnd, headLine, rowText, listing, refusedText, entryOf, rowOf, listingOf}
+use Rattle.text.specs.Model.Put.{Put}
 use Rattle.text.specs.Laws.Digits.{one-digit, two-most, three-most}
 use Rattle.text.specs.Laws.Pieces.{put-same}
 use Rattle.text.specs.Laws.Lengths.{length-entry, length-row, length-head, length-listing, length-refused}
@@ -117,15 +118,16 @@ head-most count inputs outputs horizon a b c d =
 -- the outputs and next states of a loadable table are small
 entries-small : (t : List ℕ) → loadable t ≡ true → (k i : ℕ) → k < u16At t 8 → i < 2 ^ getD t 5 0
     → (outputIn t (getD t 5 0) k i < 10) × (nextIn t (getD t 5 0) k i < 1000)
-unfolding outputIn nextIn entryOk
+unfolding entryOk
 entries-small t e k i h l =
     let head = loadable-head t e in
     let lines = lines-facts (getD t 4 0) (getD t 5 0) (getD t 6 0) (head .lines) in
     let ok = loadable-entry t e k i h l in
     let outs : 2 ^ getD t 6 0 ≤ 8 = pow-mono {j = 3} (lines .outputs-most) in
-    let at = entryAt (getD t 5 0) k i in
-    let out : getD t at 0 < 2 ^ getD t 6 0 = ltb-true (getD t at 0) (2 ^ getD t 6 0) (search and-left) in
-    let next : getD t (at + 1) 0 < u16At t 8 = ltb-true (getD t (at + 1) 0) (u16At t 8) (search (and-left, and-right)) in
+    let o = outputIn t (getD t 5 0) k i in
+    let n = nextIn t (getD t 5 0) k i in
+    let out : o < 2 ^ getD t 6 0 = ltb-true o (2 ^ getD t 6 0) (search and-left) in
+    let next : n < u16At t 8 = ltb-true n (u16At t 8) (search (and-left, and-right)) in
     (omega arith, omega (arith, head .count-most))
 
 pub listing-most : (t : List ℕ) → loadable t ≡ true → length (listingOf t) ≤ textLength
@@ -147,11 +149,8 @@ listing-most t e =
     )
 
 -- a loadable table has a head, and is as long as it says
-pub loadable-filled : (t : List ℕ) → loadable t ≡ true → (10 ≤ length t) × Filled t (getD t 5 0) (u16At t 8)
-loadable-filled t e =
-    let head = loadable-head t e in
-    let lines = lines-facts (getD t 4 0) (getD t 5 0) (getD t 6 0) (head .lines) in
-    (head .long, record { inputs-most = lines .inputs-most; count-most = head .count-most; fills = head .fills })
+pub loadable-filled : (t : List ℕ) → loadable t ≡ true → (headLength ≤ length t) × Sized t (getD t 5 0) (u16At t 8)
+loadable-filled t e = (loadable-head t e .long, loadable-sized t e)
 
 -- the numbers of refusals are small
 ground-most : (g : Refusal) → groundNumber g ≤ 10
@@ -178,7 +177,7 @@ outcome-most (Refused ground) result e =
 
 module _ (mode inputs outputs horizon count : ℕ) (out next : ℕ → ℕ → ℕ) where
   pub listing-made : listingOf (guardTable mode inputs outputs horizon count out next) ≡ listing count inputs outputs horizon out next
-  unfolding listingOf listing outputIn nextIn rowText
+  unfolding listingOf listing rowText
   listing-made =
       let t = guardTable mode inputs outputs horizon count out next in
       let head = table-head mode inputs outputs horizon count out next in

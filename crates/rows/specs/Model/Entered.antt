@@ -1,9 +1,9 @@
 -- The entries that the code writes, read from work memory, and why each of them can be read.
 -- Assumes nothing.
-use mathlib.Core.List.{List, [], _∷_}
+use mathlib.Core.List.{List}
 use Prim.Native.Nat.{ℕ, _-_, _≤_, _<_}
 use lib.ListN.{length, getD}
-use Rattle.records.specs.Meaning.GuardTable.{guardRow, guardTable}
+use Rattle.guard_table.specs.Meaning.GuardTable.{nextEnd, guardEntry, guardRow, guardTable}
 use Rattle.values.specs.Model.Values.{Game}
 use Rattle.values.specs.Model.Guard.{chosen, follows, guardStates}
 use Rattle.values.specs.Model.Numbered.{Following, Numbered}
@@ -16,7 +16,7 @@ numbered g choices numbers k i = getD numbers (follows g choices k i) 0 - 1
 
 -- the entry of product state k at input i
 abbrev pub entryBy : Game → List ℕ → List ℕ → ℕ → ℕ → List ℕ
-entryBy g choices numbers k i = chosen g choices k i ∷ numbered g choices numbers k i ∷ []
+entryBy g choices numbers k i = guardEntry (chosen g choices k i) (numbered g choices numbers k i)
 
 -- its row
 abbrev pub rowBy : ℕ → Game → List ℕ → List ℕ → ℕ → List ℕ
@@ -36,7 +36,7 @@ pub record Entered (g : Game) (choices numbers : List ℕ) (n k : ℕ) : Type 0 
   pub state : k < n
   pub low : (i : ℕ) → i < g .inputs → follows g choices k i < n
   pub least : (i : ℕ) → i < g .inputs → 1 ≤ getD numbers (follows g choices k i) 0
-  pub most : (i : ℕ) → i < g .inputs → getD numbers (follows g choices k i) 0 ≤ 256
+  pub most : (i : ℕ) → i < g .inputs → getD numbers (follows g choices k i) 0 ≤ nextEnd
 
 -- the guard's states, numbered
 pub record Tabled (g : Game) (choices order numbers : List ℕ) (n count : ℕ) : Type 0 where

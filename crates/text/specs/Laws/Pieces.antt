@@ -9,7 +9,8 @@ use lib.Seq.{sets, length-sets}
 use Rattle.records.specs.Meaning.Lists.{tab, cat}
 use Rattle.records.specs.Laws.Lists.{length-tab, tab-self, cat-none, cat-more, cat-at, sets-append, sets-more}
 use Rattle.records.specs.Meaning.Numbers.{u16At}
-use Rattle.text.specs.Meaning.Listing.{headLine, entryText, listing, outputIn, nextIn, entryOf, rowOf, listingOf}
+use Rattle.guard_table.specs.Meaning.GuardTable.{outputIn, nextIn}
+use Rattle.text.specs.Meaning.Listing.{headLine, entryText, listing, entryOf, rowOf, listingOf}
 use Rattle.text.specs.Model.Put.{Put}
 
 pub put-same : {before : List ℕ} {at : ℕ} {words : List ℕ} {place : ℕ} {after : List ℕ} → Put before at words place after

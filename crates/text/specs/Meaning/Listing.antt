@@ -7,7 +7,7 @@ use lib.Dec.{ltb}
 use lib.ListN.{getD}
 use Rattle.records.specs.Meaning.Lists.{cat}
 use Rattle.records.specs.Meaning.Numbers.{u16At}
-use Rattle.records.specs.Meaning.GuardTable.{entryAt}
+use Rattle.guard_table.specs.Meaning.GuardTable.{outputIn, nextIn}
 
 -- ---- numbers
 
@@ -81,13 +81,7 @@ refusedText number = labelled refusedWord number ++ lineEnd
 
 -- ---- the listing of a guard table's bytes
 
--- the entry of a state and an input, where the table's layout puts it
-unfoldable pub outputIn : List ℕ → ℕ → ℕ → ℕ → ℕ
-outputIn t inputs k i = getD t (entryAt inputs k i) 0
-
-unfoldable pub nextIn : List ℕ → ℕ → ℕ → ℕ → ℕ
-nextIn t inputs k i = getD t (entryAt inputs k i + 1) 0
-
+-- an entry
 unfoldable pub entryOf : List ℕ → ℕ → ℕ → ℕ → List ℕ
 entryOf t inputs k i = entryText (outputIn t inputs k i) (nextIn t inputs k i)
 

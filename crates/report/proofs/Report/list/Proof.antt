@@ -7,7 +7,7 @@ use native.Mathlib.Omega.{arith}
 use lib.ListN.{length}
 use denote.Ref.{now}
 use Rattle.records.specs.Laws.Tests.{said-no, said-yes}
-use Rattle.tables.specs.Meaning.Loadable.{loadable}
+use Rattle.guard_table.specs.Meaning.Loadable.{loadable}
 use Rattle.text.specs.Meaning.Listing.{listingOf}
 use Rattle.report.specs.Laws.Answers.{writes-text, writes-short, writes-no-table, loadable-filled}
 use borrow.Author.Needs.{needs}

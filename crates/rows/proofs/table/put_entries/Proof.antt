@@ -1,23 +1,27 @@
 -- `rows::table::put_entries`: the entries of the inputs before i are stored. Assumes nothing.
 use mathlib.Core.Path.{_≡_, refl, sym, ap, subst}
-use Prim.Native.Nat.{ℕ, _+_, _-_, _*_, _≤_, _<_}
+use Prim.Native.Nat.{ℕ, _+_, _-_, _*_, _^_, _≤_, _<_}
 use native.Mathlib.Omega.{arith}
 use lib.Arith.{digits-lt}
-use lib.ListN.{length, length-set, getD}
+use lib.ListN.{length, getD}
+use lib.Pow.{pow-mono}
+use Rattle.records.specs.Meaning.Limits.{maxInputs}
 use Rattle.values.specs.Model.Guard.{chosen}
 use Rattle.values.specs.Model.Numbered.{stepsOf}
 use Rattle.records.specs.Laws.Stores.{Blocks, no-block, same-blocks, more-blocks, all-blocks}
 use Rattle.rows.specs.Model.Entered.{numbered, entryBy}
-use Rattle.rows.proofs.Stores.{pair-stored}
+use Rattle.guard_table.specs.Meaning.GuardTable.{nextEnd, entryAt}
+use Rattle.guard_table.specs.Laws.GuardTable.{entry-inside}
+use Rattle.rows.proofs.Stores.{entry-stored}
 use Rattle.rows.proofs.table.put_entries.Statement.{statement}
 use Rattle.rows.proofs.table.put_entries.Tie as tie
 
 abbrev Inv-loop : tie.InvT-loop
-Inv-loop result₀ at cells inputs outputs n choices numbers k i₀ result i =
-    (i ≤ inputs) × Blocks result₀ at (entryBy (stepsOf cells inputs outputs) choices numbers k) i result
+Inv-loop result₀ place cells lines inputs outputs n choices numbers k layout i₀ result i =
+    (i ≤ inputs) × Blocks result₀ (entryAt lines place 0) (entryBy (stepsOf cells inputs outputs) choices numbers k) i result
 
 abbrev μ-loop : tie.MeasureT-loop
-μ-loop result₀ at cells inputs outputs n choices numbers k i₀ result i = inputs - i
+μ-loop result₀ place cells lines inputs outputs n choices numbers k layout i₀ result i = inputs - i
 
 -- the places that the needs look back to
 abbrev entry : tie.In-loop Inv-loop μ-loop → tie.Start Inv-loop μ-loop
@@ -25,6 +29,13 @@ entry c = c .before .before .before .before .before .before
 
 abbrev args : (c : tie.After-follow Inv-loop μ-loop) → tie.Start Inv-loop μ-loop
 args c = entry (c .before)
+
+abbrev found : tie.After-entry-at Inv-loop μ-loop → tie.After-follow Inv-loop μ-loop
+found c = c .before .before .before .before
+
+-- the input is one of those that there are
+low : (c : tie.In-loop Inv-loop μ-loop) → c .before .loop .i < 2 ^ entry c .args .lines
+low c = omega (arith, c .loop-test .taken, entry c .pre .1 .0)
 
 -- the choice lies among those of n states
 inside : (c : tie.After-follow Inv-loop μ-loop) →
@@ -36,13 +47,13 @@ inside c = let e = args c .pre .0 in omega (arith, digits-lt (e .state) (c .befo
 some : (c : tie.After-follow Inv-loop μ-loop) →
     let a = args c .args in
     (c .follow .result < length (a .numbers .now))
-    × (1 ≤ getD (a .numbers .now) (c .follow .result) 0) × (getD (a .numbers .now) (c .follow .result) 0 ≤ 256)
+    × (1 ≤ getD (a .numbers .now) (c .follow .result) 0) × (getD (a .numbers .now) (c .follow .result) 0 ≤ nextEnd)
 some c =
     let a = args c .args in
     let e = args c .pre .0 in
     let i = c .before .before .loop .i in
     let low = c .before .loop-test .taken in
-    subst (λ (x : ℕ). (x < length (a .numbers .now)) × (1 ≤ getD (a .numbers .now) x 0) × (getD (a .numbers .now) x 0 ≤ 256))
+    subst (λ (x : ℕ). (x < length (a .numbers .now)) × (1 ≤ getD (a .numbers .now) x 0) × (getD (a .numbers .now) x 0 ≤ nextEnd))
     (sym (c .follow .ensures)) (omega (arith, e .low i low, e .room), e .least i low, e .most i low)
 
 loop-holds : tie.Need-loop-holds Inv-loop μ-loop
@@ -51,41 +62,38 @@ loop-holds c = (omega arith, no-block)
 follow-requires : tie.Need-follow-requires Inv-loop μ-loop
 follow-requires c κs = (entry c .pre .0 .following, (entry c .pre .0 .state, c .loop-test .taken))
 
-mul-place : tie.Need-mul-place Inv-loop μ-loop
-mul-place c = omega arith
+mul-t16 : tie.Need-mul-t16 Inv-loop μ-loop
+mul-t16 c = omega (arith, inside c)
 
-add-place : tie.Need-add-place Inv-loop μ-loop
-add-place c = omega (arith, same-blocks (c .before .before .loop .inv .1))
+add-t17 : tie.Need-add-t17 Inv-loop μ-loop
+add-t17 c = omega (arith, inside c)
 
-mul-result : tie.Need-mul-result Inv-loop μ-loop
-mul-result c = omega (arith, inside c)
+shared-slice-read-t19 : tie.Need-shared-slice-read-t19 Inv-loop μ-loop
+shared-slice-read-t19 c = omega (arith, inside (c .before))
 
-add-result : tie.Need-add-result Inv-loop μ-loop
-add-result c = omega (arith, inside c)
+mul-t20 : tie.Need-mul-t20 Inv-loop μ-loop
+mul-t20 c = omega (arith, some (c .before) .0)
 
-shared-slice-read-result : tie.Need-shared-slice-read-result Inv-loop μ-loop
-shared-slice-read-result c = omega (arith, inside (c .before))
+shared-slice-read-t22 : tie.Need-shared-slice-read-t22 Inv-loop μ-loop
+shared-slice-read-t22 c = omega (arith, some (c .before .before) .0)
 
-slice-write-result : tie.Need-slice-write-result Inv-loop μ-loop
-slice-write-result c = omega (arith, same-blocks (c .before .before .before .loop .inv .1))
+sub-t23 : tie.Need-sub-t23 Inv-loop μ-loop
+sub-t23 c = omega (arith, some (c .before .before) .1)
 
-mul-result-2 : tie.Need-mul-result-2 Inv-loop μ-loop
-mul-result-2 c = omega (arith, some (c .before) .0)
+entry-at-requires : tie.Need-entry-at-requires Inv-loop μ-loop
+entry-at-requires c κs =
+    let at = c .before .before .before in
+    let row = args at .pre .1 .1 in
+    let few : 2 ^ args at .args .lines ≤ 16 = pow-mono {j = maxInputs} (row .inputs-most) in
+    (row .inputs-most, (row .place-most, omega (arith, low (at .before))))
 
-shared-slice-read-result-2 : tie.Need-shared-slice-read-result-2 Inv-loop μ-loop
-shared-slice-read-result-2 c = omega (arith, some (c .before .before) .0)
-
-sub-result : tie.Need-sub-result Inv-loop μ-loop
-sub-result c = omega (arith, some (c .before .before) .1)
-
-cast-result : tie.Need-cast-result Inv-loop μ-loop
-cast-result c = omega (arith, some (c .before .before) .1, some (c .before .before) .2)
-
-add-result-2 : tie.Need-add-result-2 Inv-loop μ-loop
-add-result-2 c = omega (arith, same-blocks (c .before .before .before .before .loop .inv .1))
-
-slice-write-result-2 : tie.Need-slice-write-result-2 Inv-loop μ-loop
-slice-write-result-2 c = simp length-set (omega (arith, same-blocks (c .before .before .before .before .loop .inv .1)))
+put-entry-requires : tie.Need-put-entry-requires Inv-loop μ-loop
+put-entry-requires c κs =
+    let at = found c in
+    let fits = entry-inside (args at .pre .1 .1) (low (at .before)) in (
+      omega (arith, fits .ends, c .entry-at .ensures, same-blocks (at .before .before .loop .inv .1)),
+      omega (arith, some at .1, some at .2),
+    )
 
 add-i : tie.Need-add-i Inv-loop μ-loop
 add-i c = omega arith
@@ -95,9 +103,16 @@ loop-less c = omega arith
 
 loop-again : tie.Need-loop-again Inv-loop μ-loop
 unfolding chosen numbered
-loop-again c = let at = c .before .before .before .before in
-    let a = args (c .before .before) .args in
-    (omega arith, more-blocks (at .loop .inv .1) (λ q. refl) (pair-stored (at .loop .result) (a .at + at .loop .i * 2) (getD (a .choices .now) (a .k * a .inputs + at .loop .i) 0) (ap (λ (x : ℕ). getD (a .numbers .now) x 0 - 1) (c .before .before .follow .ensures))))
+loop-again c =
+    let done = c .before .before in
+    let at = found (done .before) in
+    let a = args at .args in
+    let l = at .before .before .loop in (
+      omega arith,
+      more-blocks (l .inv .1) (λ q. refl)
+          (entry-stored (l .result) (a .lines) (a .place) (l .i) (getD (a .choices .now) (a .k * a .inputs + l .i) 0) (done .before .entry-at .ensures)
+          (ap (λ (x : ℕ). getD (a .numbers .now) x 0 - 1) (at .follow .ensures)) (done .put-entry .ensures)),
+    )
 
 same-length : tie.Need-same-length Inv-loop μ-loop
 same-length c = same-blocks (c .before .loop .inv .1)
@@ -113,18 +128,14 @@ put-entries-spec =
     μ-loop
     loop-holds
     follow-requires
-    mul-place
-    add-place
-    mul-result
-    add-result
-    shared-slice-read-result
-    slice-write-result
-    mul-result-2
-    shared-slice-read-result-2
-    sub-result
-    cast-result
-    add-result-2
-    slice-write-result-2
+    mul-t16
+    add-t17
+    shared-slice-read-t19
+    mul-t20
+    shared-slice-read-t22
+    sub-t23
+    entry-at-requires
+    put-entry-requires
     add-i
     loop-less
     loop-again

@@ -1,48 +1,39 @@
 -- `rows::table::put_rows`: the records of the guard states before j are stored. Assumes nothing.
-use mathlib.Core.Path.{_≡_, sym, _∙_}
-use Prim.Native.Nat.{ℕ, _+_, _-_, _*_, _≤_}
+use Prim.Native.Nat.{_-_, _≤_}
 use native.Mathlib.Omega.{arith}
-use lib.ListN.{length, getD}
-use Rattle.records.specs.Meaning.GuardTable.{rowLength}
-use Rattle.records.specs.Laws.GuardTable.{length-row}
+use lib.ListN.{getD}
+use Rattle.guard_table.specs.Meaning.GuardTable.{headLength, rowAt}
+use Rattle.guard_table.specs.Laws.GuardTable.{row-inside, row-kept, length-row}
+use Rattle.guard_table.specs.Model.Inside.{RowInside}
 use Rattle.values.specs.Model.Numbered.{stepsOf}
 use Rattle.records.specs.Laws.Stores.{Blocks, no-block, same-blocks, more-blocks, all-blocks}
 use Rattle.rows.specs.Model.Entered.{rowBy}
 use Rattle.rows.specs.Laws.Entered.{count-most, entered}
-use Rattle.rows.proofs.Stores.{row-inside}
 use Rattle.rows.proofs.table.put_rows.Statement.{statement}
 use Rattle.rows.proofs.table.put_rows.Tie as tie
 
 abbrev Inv-loop : tie.InvT-loop
-Inv-loop result₀ cells lines inputs outputs n choices order numbers count size j₀ result j =
-    (j ≤ count) × Blocks result₀ 10 (λ q. rowBy lines (stepsOf cells inputs outputs) choices numbers (getD order q 0)) j result
+Inv-loop result₀ cells lines inputs outputs n choices order numbers count j₀ result j =
+    (j ≤ count) × Blocks result₀ headLength (λ q. rowBy lines (stepsOf cells inputs outputs) choices numbers (getD order q 0)) j result
 
 abbrev μ-loop : tie.MeasureT-loop
-μ-loop result₀ cells lines inputs outputs n choices order numbers count size j₀ result j = count - j
+μ-loop result₀ cells lines inputs outputs n choices order numbers count j₀ result j = count - j
 
 -- the places that the needs look back to
 abbrev entry : tie.At-loop Inv-loop μ-loop → tie.Start Inv-loop μ-loop
-entry c = c .before .before .before .before .before .before .before
+entry c = c .before .before .before .before .before .before
 
 abbrev turn : tie.After-put-row-arg Inv-loop μ-loop → tie.At-loop Inv-loop μ-loop
 turn c = c .before .before .before
 
--- the record of guard state j lies inside the result
-inside : (c : tie.In-loop Inv-loop μ-loop) →
-    let at = c .before in
-    10 + at .loop .j * at .before .row-length .result + rowLength (entry at .args .lines) ≤ length (at .loop .result)
+-- the row of guard state j lies inside the result
+inside : (c : tie.In-loop Inv-loop μ-loop) → let at = c .before in RowInside (at .loop .result) (entry at .args .lines) (at .loop .j)
 inside c =
     let at = c .before in
     let s = entry at in
-    omega (
-      arith,
-      same-blocks (at .loop .inv .1),
-      row-inside (s .args .lines) (at .loop .j) (s .args .count) {room = length (s .args .result .now)} (at .before .row-length .ensures .0)
-          (c .loop-test .taken) (s .pre .1 .1 .1),
-    )
-
-row-length-requires : tie.Need-row-length-requires Inv-loop μ-loop
-row-length-requires c κs = omega arith
+    row-kept {t = s .args .result .now}
+    (row-inside (s .pre .1 .1 .0) (omega (arith, count-most (s .pre .0), s .pre .0 .following .states)) (s .pre .1 .1 .1) (c .loop-test .taken))
+    (same-blocks (at .loop .inv .1))
 
 loop-holds : tie.Need-loop-holds Inv-loop μ-loop
 loop-holds c = (omega arith, no-block)
@@ -56,15 +47,9 @@ shared-slice-read-k c = let s = entry (c .before .before) in omega (arith, count
 cast-k : tie.Need-cast-k Inv-loop μ-loop
 cast-k c = omega (arith, c .shared-slice-known5 .given (c .before .before .loop .j))
 
-mul-put-row : tie.Need-mul-put-row Inv-loop μ-loop
-mul-put-row c = omega (arith, inside (c .before .before), same-blocks (turn c .loop .inv .1))
-
-add-put-row : tie.Need-add-put-row Inv-loop μ-loop
-add-put-row c = omega (arith, inside (c .before .before), same-blocks (turn c .loop .inv .1))
-
 put-row-requires : tie.Need-put-row-requires Inv-loop μ-loop
 put-row-requires c κs = let s = entry (turn c) in
-    (entered (s .pre .0) (turn c .loop .j) (c .before .before .loop-test .taken), (s .pre .1 .0, (s .pre .1 .1 .0, inside (c .before .before))))
+    (entered (s .pre .0) (turn c .loop .j) (c .before .before .loop-test .taken), (s .pre .1 .0, inside (c .before .before)))
 
 add-j : tie.Need-add-j Inv-loop μ-loop
 add-j c = omega arith
@@ -73,8 +58,9 @@ loop-less : tie.Need-loop-less Inv-loop μ-loop
 loop-less c = omega arith
 
 loop-again : tie.Need-loop-again Inv-loop μ-loop
+unfolding rowAt
 loop-again c = let at = turn (c .before .before .before) in
-    (omega arith, more-blocks (at .loop .inv .1) (λ q. length-row _ _ _ ∙ sym (at .before .row-length .ensures .0)) (c .before .before .put-row .ensures))
+    (omega arith, more-blocks (at .loop .inv .1) (λ q. length-row _ _ _) (c .before .before .put-row .ensures))
 
 same-length : tie.Need-same-length Inv-loop μ-loop
 same-length c = same-blocks (c .before .loop .inv .1)
@@ -88,13 +74,10 @@ put-rows-spec =
     (tie.spec
     Inv-loop
     μ-loop
-    row-length-requires
     loop-holds
     mul-k
     shared-slice-read-k
     cast-k
-    mul-put-row
-    add-put-row
     put-row-requires
     add-j
     loop-less

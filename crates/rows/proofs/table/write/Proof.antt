@@ -1,6 +1,6 @@
 -- `rows::table::write`: the head and the rows, one after the other. Assumes nothing.
 use native.Mathlib.Omega.{arith}
-use Rattle.records.specs.Meaning.GuardTable.{tableLength}
+use Rattle.guard_table.specs.Meaning.GuardTable.{tableLength}
 use Rattle.values.specs.Model.Numbered.{stepsOf}
 use Rattle.rows.specs.Laws.Entered.{count-most}
 use Rattle.rows.proofs.Stores.{table-stored}

@@ -7,6 +7,7 @@ use lib.ListN.{length}
 use lib.Pow.{pow-mono}
 use borrow.Author.Needs.{needs}
 use Rattle.records.specs.Meaning.Lists.{cat}
+use Rattle.guard_table.specs.Laws.GuardTable.{sized-row, entry-inside}
 use Rattle.text.specs.Meaning.Listing.{entryOf}
 use Rattle.text.specs.Laws.Pieces.{entry-found}
 use Rattle.text.specs.Laws.Lengths.{length-none, length-more}
@@ -38,7 +39,7 @@ few c = pow-mono {j = 4} (c .pre .0 .inputs-most)
 found : (c : tie.After-entry-length Inv-loop μ-loop) → c .entry-length .result ≡ length (entries (start (turn c)) (turn c .loop .i))
 found c =
     let read = c .before .entry-in .ensures in
-    c .entry-length .ensures .0 ∙ ap length (entry-found _ _ _ _ (read .0) (read .1))
+    c .entry-length .ensures .0 ∙ ap length (entry-found _ _ _ _ (read .0) (read .1 .0))
 
 pow2-requires : tie.Need-pow2-requires Inv-loop μ-loop
 pow2-requires c κs = omega (arith, c .before .pre .0 .inputs-most)
@@ -47,7 +48,7 @@ loop-holds : tie.Need-loop-holds Inv-loop μ-loop
 loop-holds c = (omega arith, (sym (length-none _), omega arith))
 
 entry-in-requires : tie.Need-entry-in-requires Inv-loop μ-loop
-entry-in-requires c κs = let s = start (c .before) in (s .pre .0, (s .pre .1, omega (arith, c .before .before .pow2 .ensures)))
+entry-in-requires c κs = let s = start (c .before) in entry-inside (sized-row (s .pre .0) (s .pre .1)) (omega (arith, c .before .before .pow2 .ensures))
 
 entry-length-requires : tie.Need-entry-length-requires Inv-loop μ-loop
 entry-length-requires c κs = search needs

@@ -1,0 +1,43 @@
+-- A table to load (document 01, 'Sheet and tables').
+-- Assumes nothing.
+use mathlib.Core.Bool.{Bool, _&&_}
+use mathlib.Core.List.{List}
+use Prim.Native.Nat.{ℕ, _^_}
+use lib.Dec.{ltb, leb, eqb}
+use lib.ListN.{length, getD}
+use Rattle.records.specs.Meaning.Bounded.{all}
+use Rattle.records.specs.Meaning.Numbers.{u16At}
+use Rattle.records.specs.Meaning.Limits.{maxStates, linesOk, horizonOk}
+use Rattle.guard_table.specs.Meaning.GuardTable.{headKind, rowKind, headSize, headLength, rowSize, tableLength, rowAt, headerIs, outputIn, nextIn}
+
+-- ---- the head: its kind, its fields in bounds, and the rows fill the rest of the slice exactly
+
+unfoldable pub sizeOk : ℕ → ℕ → ℕ → Bool
+sizeOk inputs count size = leb 1 count && (leb count maxStates && eqb size (tableLength inputs count))
+
+unfoldable pub fieldsOk : ℕ → ℕ → ℕ → ℕ → ℕ → ℕ → Bool
+fieldsOk mode inputs outputs horizon count size =
+    linesOk mode inputs outputs && (horizonOk inputs horizon && sizeOk inputs count size)
+
+unfoldable pub headOk : List ℕ → Bool
+headOk t =
+    leb headLength (length t)
+    && (headerIs t 0 headSize headKind && fieldsOk (getD t 4 0) (getD t 5 0) (getD t 6 0) (getD t 7 0) (u16At t 8) (length t))
+
+-- ---- the rows: their kind, and for each input an output below 2^outputs and a next state below count
+
+unfoldable pub entryOk : ℕ → ℕ → ℕ → ℕ → Bool
+entryOk output next outputs count = ltb output (2 ^ outputs) && ltb next count
+
+unfoldable pub entriesOk : List ℕ → ℕ → ℕ → ℕ → ℕ → Bool
+entriesOk t inputs outputs count place = all (2 ^ inputs) (λ i. entryOk (outputIn t inputs place i) (nextIn t inputs place i) outputs count)
+
+unfoldable pub rowOk : List ℕ → ℕ → ℕ → ℕ → ℕ → Bool
+rowOk t inputs outputs count place =
+    headerIs t (rowAt inputs place) (rowSize inputs) rowKind && entriesOk t inputs outputs count place
+
+unfoldable pub rowsOk : List ℕ → ℕ → ℕ → ℕ → Bool
+rowsOk t inputs outputs count = all count (rowOk t inputs outputs count)
+
+unfoldable pub loadable : List ℕ → Bool
+loadable t = headOk t && rowsOk t (getD t 5 0) (getD t 6 0) (u16At t 8)

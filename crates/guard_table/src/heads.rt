@@ -1,0 +1,46 @@
+// The head of a guard table, and the headers of its records.
+use crate::layout::Layout;
+use records::cursor::put_header;
+use records::numbers::put_u16;
+use records::numbers::u16_at;
+ghost use mathlib.Core.Path.{_≡_};
+ghost use Prim.Native.Nat.{_+_, _<_, _≤_};
+ghost use lib.ListN.{length};
+ghost use lib.Seq.{sets};
+ghost use Rattle.records.specs.Meaning.Records.{header};
+ghost use Rattle.guard_table.specs.Meaning.GuardTable.{rowKind, headLength, rowSize, rowAt, headerIs, guardHead};
+ghost use Rattle.guard_table.specs.Model.Inside.{RowInside};
+
+// Whether a record's header has this size and this kind.
+pub fn header_is(t: &[u8], at: usize, size: u16, kind: u16) -> bool
+    requires { ⌜ at + 3 < length (now t) ⌝ }
+    ensures { λ r. ⌜ r ≡ headerIs (now (t .entry)) at size kind ⌝ }
+{
+    if u16_at(t, at) != size {
+        return false;
+    }
+    u16_at(t, at + 2) == kind
+}
+
+// Writes the head, at the start of the result.
+pub fn put_head(result: &mut [u8], mode: u8, inputs: u8, outputs: u8, horizon: u8, count: u16)
+    requires { ⌜ headLength ≤ length (now result) ⌝ }
+    ensures { λ _. ⌜ now (result .exit) ≡ sets (now (result .entry)) 0 (guardHead mode inputs outputs horizon count) ⌝ }
+{
+    put_header(result, 0, Layout::HEAD_SIZE, Layout::HEAD_KIND);
+    result[4] = mode;
+    result[5] = inputs;
+    result[6] = outputs;
+    result[7] = horizon;
+    put_u16(result, 8, count);
+}
+
+// Writes the header of a state's row.
+pub fn put_row_header(result: &mut [u8], lines: u8, place: usize)
+    requires { ⌜ RowInside (now result) lines place ⌝ }
+    ensures { λ _. ⌜ now (result .exit) ≡ sets (now (result .entry)) (rowAt lines place) (header (rowSize lines) rowKind) ⌝ }
+{
+    let layout = Layout { inputs: lines };
+    let size = layout.row_size();
+    put_header(result, layout.row_at(place), size as u16, Layout::ROW_KIND);
+}

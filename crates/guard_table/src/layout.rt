@@ -1,0 +1,72 @@
+// Where the parts of a guard table stand.
+use records::numbers::pow2;
+ghost use mathlib.Core.Path.{_≡_};
+ghost use Prim.Native.Nat.{_≤_};
+ghost use Rattle.records.specs.Meaning.Limits.{maxInputs, maxStates};
+ghost use Rattle.guard_table.specs.Meaning.GuardTable.{rowSize, rowLength, tableLength, rowAt, entryAt};
+ghost use Rattle.guard_table.specs.Model.Inside.{tableMost};
+
+// The guard table's kinds and sizes.
+pub struct Layout {
+    pub inputs: u8,
+}
+
+impl Layout {
+    // The kinds of the head and of a row.
+    pub const HEAD_KIND: u16 = 16;
+
+    pub const ROW_KIND: u16 = 17;
+
+    // A record's bytes before its body; the head's body; the head.
+    pub const HEADER: usize = 4;
+
+    pub const HEAD_SIZE: u16 = 6;
+
+    pub const HEAD_LENGTH: usize = 10;
+
+    // An entry: output and next state.
+    pub const ENTRY_WIDTH: usize = 2;
+
+    // No table is longer: 256 states with 16 inputs.
+    pub const MOST: usize = 9_226;
+
+    // The bytes of a row's body: an entry for each input.
+    pub fn row_size(self) -> usize
+        requires { ⌜ self .inputs ≤ maxInputs ⌝ }
+        ensures { λ r. ⌜ (r ≡ rowSize (self .inputs)) × (r ≤ 32) ⌝ }
+    {
+        Layout::ENTRY_WIDTH * pow2(self.inputs)
+    }
+
+    // The bytes of a row's record.
+    pub fn row_length(self) -> usize
+        requires { ⌜ self .inputs ≤ maxInputs ⌝ }
+        ensures { λ r. ⌜ (r ≡ rowLength (self .inputs)) × (r ≤ 36) ⌝ }
+    {
+        Layout::HEADER + self.row_size()
+    }
+
+    // Where the row of a state begins: after the head and the rows before it.
+    pub fn row_at(self, place: usize) -> usize
+        requires { ⌜ (self .inputs ≤ maxInputs) × (place ≤ maxStates) ⌝ }
+        ensures { λ r. ⌜ (r ≡ rowAt (self .inputs) place) × (r ≤ tableMost) ⌝ }
+    {
+        Layout::HEAD_LENGTH + place * self.row_length()
+    }
+
+    // The bytes of a table with so many states: it ends where one row more would begin.
+    pub fn table_length(self, count: usize) -> usize
+        requires { ⌜ (self .inputs ≤ maxInputs) × (count ≤ maxStates) ⌝ }
+        ensures { λ r. ⌜ r ≡ tableLength (self .inputs) count ⌝ }
+    {
+        self.row_at(count)
+    }
+
+    // Where the entry of a state and an input stands.
+    pub fn entry_at(self, place: usize, input: usize) -> usize
+        requires { ⌜ (self .inputs ≤ maxInputs) × ((place ≤ maxStates) × (input ≤ 255)) ⌝ }
+        ensures { λ r. ⌜ r ≡ entryAt (self .inputs) place input ⌝ }
+    {
+        self.row_at(place) + (Layout::HEADER + Layout::ENTRY_WIDTH * input)
+    }
+}

@@ -1,0 +1,110 @@
+// Which slices are guard tables that a board may load.
+use crate::entry::entry_in;
+use crate::entry::entry_ok;
+use crate::heads::header_is;
+use crate::layout::Layout;
+use records::limits::Limits;
+use records::limits::horizon_ok;
+use records::limits::lines_ok;
+use records::numbers::pow2;
+use records::numbers::u16_at;
+ghost use mathlib.Core.Path.{_≡_};
+ghost use Prim.Native.Nat.{_<_, _≤_};
+ghost use Rattle.records.specs.Meaning.Limits.{maxInputs, maxOutputs};
+ghost use Rattle.guard_table.specs.Meaning.Loadable.{sizeOk, fieldsOk, headOk, entriesOk, rowOk, rowsOk, loadable};
+ghost use Rattle.guard_table.specs.Model.Inside.{Sized};
+
+// Whether the count is in range, and the slice is as long as a table of so many states.
+fn size_ok(inputs: u8, count: u16, size: usize) -> bool
+    requires { ⌜ inputs ≤ maxInputs ⌝ }
+    ensures { λ r. ⌜ r ≡ sizeOk inputs count size ⌝ }
+{
+    if count < 1 {
+        return false;
+    }
+    if Limits::STATES < count as usize {
+        return false;
+    }
+    size == Layout { inputs }.table_length(count as usize)
+}
+
+// Whether the head's fields are in range, and the slice is as long as they say.
+fn fields_ok(mode: u8, inputs: u8, outputs: u8, horizon: u8, count: u16, size: usize) -> bool
+    ensures { λ r. ⌜ r ≡ fieldsOk mode inputs outputs horizon count size ⌝ }
+{
+    if lines_ok(mode, inputs, outputs) {
+        if horizon_ok(inputs, horizon) {
+            return size_ok(inputs, count, size);
+        }
+    }
+    false
+}
+
+// Whether the head is a guard table's.
+fn head_ok(t: &[u8]) -> bool
+    ensures { λ r. ⌜ r ≡ headOk (now (t .entry)) ⌝ }
+{
+    if t.len() < Layout::HEAD_LENGTH {
+        return false;
+    }
+    if header_is(t, 0, Layout::HEAD_SIZE, Layout::HEAD_KIND) {
+        return fields_ok(t[4], t[5], t[6], t[7], u16_at(t, 8), t.len());
+    }
+    false
+}
+
+// Whether every entry of a state's row is in range. From the last entry down: a loop up to a power of two is compiled with a
+// shift at each turn.
+fn entries_ok(t: &[u8], inputs: u8, outputs: u8, count: usize, place: usize) -> bool
+    requires { ⌜ Sized (now t) inputs count × ((outputs ≤ maxOutputs) × (place < count)) ⌝ }
+    ensures { λ r. ⌜ r ≡ entriesOk (now (t .entry)) inputs outputs count place ⌝ }
+{
+    let mut left = pow2(inputs);
+    while 0 < left {
+        left -= 1;
+        let entry = entry_in(t, inputs, place, left);
+        if !entry_ok(entry, outputs, count) {
+            return false;
+        }
+    }
+    true
+}
+
+// Whether the row of a state is in order.
+fn row_ok(t: &[u8], inputs: u8, outputs: u8, count: usize, place: usize) -> bool
+    requires { ⌜ Sized (now t) inputs count × ((outputs ≤ maxOutputs) × (place < count)) ⌝ }
+    ensures { λ r. ⌜ r ≡ rowOk (now (t .entry)) inputs outputs count place ⌝ }
+{
+    let layout = Layout { inputs };
+    let size = layout.row_size();
+    let at = layout.row_at(place);
+    if header_is(t, at, size as u16, Layout::ROW_KIND) {
+        return entries_ok(t, inputs, outputs, count, place);
+    }
+    false
+}
+
+// Whether the row of every state is in order.
+fn rows_ok(t: &[u8], inputs: u8, outputs: u8, count: usize) -> bool
+    requires { ⌜ Sized (now t) inputs count × (outputs ≤ maxOutputs) ⌝ }
+    ensures { λ r. ⌜ r ≡ rowsOk (now (t .entry)) inputs outputs count ⌝ }
+{
+    let mut place: usize = 0;
+    while place < count {
+        if !row_ok(t, inputs, outputs, count, place) {
+            return false;
+        }
+        place += 1;
+    }
+    true
+}
+
+// Whether the slice is a table to load.
+pub fn is_loadable(t: &[u8]) -> bool
+    ensures { λ r. ⌜ r ≡ loadable (now (t .entry)) ⌝ }
+{
+    if head_ok(t) {
+        return rows_ok(t, t[5], t[6], u16_at(t, 8) as usize);
+    }
+    false
+}

@@ -1,3 +1,0 @@
--- Theorems that other crates and the sources cite.
-pub mod Facts
-pub mod Guard
