@@ -23,10 +23,9 @@ pub fn entry_in(table: &[u8], lines: u8, place: usize, input: usize) -> Entry
 {
     let layout = Layout { inputs: lines };
     let at = layout.entry_at(place, input);
-    Entry {
-        output: table[at],
-        next: table[at + 1] as u16,
-    }
+    let output = table[at];
+    let next = table[at + 1] as u16;
+    Entry { output, next }
 }
 
 // Writes an entry where it stands.

@@ -40,11 +40,10 @@ pub fn put_entries(
     let mut i: usize = 0;
     while i < inputs {
         let to = follow(cells, inputs, outputs, n, choices, k, i);
-        let entry = Entry {
-            output: choices[k * inputs + i],
-            next: numbers[to] - 1,
-        };
-        put_entry(result, layout.entry_at(place, i), entry);
+        let output = choices[k * inputs + i];
+        let next = numbers[to] - 1;
+        let at = layout.entry_at(place, i);
+        put_entry(result, at, Entry { output, next });
         i += 1;
     }
 }

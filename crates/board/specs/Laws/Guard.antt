@@ -3,7 +3,7 @@
 use mathlib.Core.Path.{_≡_, sym, ap, ap₂, subst, _∙_}
 use mathlib.Core.Bool.{true}
 use mathlib.Core.List.{List}
-use Prim.Native.Nat.{ℕ, _+_, _^_, _≤_, _<_}
+use Prim.Native.Nat.{ℕ, _^_, _≤_, _<_}
 use Rattle.records.specs.Meaning.Limits.{maxStates, maxSteps, linesOk, horizonOk}
 use Rattle.guard_table.specs.Meaning.GuardTable.{outputIn, nextIn, guardTable}
 use Rattle.guard_table.specs.Laws.GuardTable.{HeadReads, table-head, entry-output, entry-next}

@@ -2,7 +2,7 @@
 -- Assumes nothing.
 use mathlib.Core.Path.{_≡_, refl, sym, ap, ap₂, _∙_}
 use mathlib.Core.Bool.{true}
-use mathlib.Core.List.{List, [], _∷_, _++_}
+use mathlib.Core.List.{List, _++_}
 use Prim.Native.Nat.{ℕ, _+_, _*_, _^_, _/_, _%_, _≤_, _<_}
 use native.Mathlib.Nat.{suc-mul, mul-le-mul, mul-le-mul-right, add-zero}
 use native.Mathlib.Omega.{arith}
@@ -13,7 +13,7 @@ use borrow.Author.Tests.{eq-eqb}
 use Rattle.records.specs.Meaning.Limits.{maxInputs, maxStates}
 use Rattle.records.specs.Meaning.Lists.{cat}
 use Rattle.records.specs.Laws.Lists.{length-cat, getD-cat, cat-ext}
-use Rattle.records.specs.Meaning.Numbers.{u16At, u16Bytes}
+use Rattle.records.specs.Meaning.Numbers.{u16At}
 use Rattle.records.specs.Meaning.Records.{header, headerSize}
 use Rattle.guard_table.specs.Meaning.GuardTable.{headKind, rowKind, headSize, headLength, entryWidth, rowSize, rowLength, tableLength, rowAt, entryAt, headerIs, outputIn, nextIn, guardHead, guardEntry, guardRow, guardTable}
 use Rattle.guard_table.specs.Model.Inside.{tableMost, Sized, RowInside, Inside}

@@ -28,17 +28,17 @@ entry-at-requires c κs =
     let few : 2 ^ s .args .lines ≤ 16 = pow-mono {j = maxInputs} (s .pre .inputs-most) in
     (s .pre .inputs-most, (s .pre .place-most, omega (arith, s .pre .low)))
 
-shared-slice-read-t8 : tie.Need-shared-slice-read-t8
-shared-slice-read-t8 c = omega (arith, inside (c .before))
+shared-slice-read-output : tie.Need-shared-slice-read-output
+shared-slice-read-output c = omega (arith, inside (c .before))
 
-add-t9 : tie.Need-add-t9
-add-t9 c = omega (arith, inside (c .before))
+add-next : tie.Need-add-next
+add-next c = omega (arith, inside (c .before))
 
-shared-slice-read-t11 : tie.Need-shared-slice-read-t11
-shared-slice-read-t11 c = omega (arith, inside (c .before .before))
+shared-slice-read-next : tie.Need-shared-slice-read-next
+shared-slice-read-next c = omega (arith, inside (c .before .before))
 
-cast-t12 : tie.Need-cast-t12
-cast-t12 c = omega (arith, byte c)
+cast-next : tie.Need-cast-next
+cast-next c = omega (arith, byte c)
 
 returns : tie.Need-returns
 unfolding outputIn nextIn
@@ -47,4 +47,4 @@ returns c = let e = c .before .before .entry-at .ensures in (rw e, (rw e, byte c
 pub entry-in-spec : {M : Type 1} → statement M
 entry-in-spec =
     tie.close
-    (tie.spec entry-at-requires shared-slice-read-t8 add-t9 shared-slice-read-t11 cast-t12 returns)
+    (tie.spec entry-at-requires shared-slice-read-output add-next shared-slice-read-next cast-next returns)

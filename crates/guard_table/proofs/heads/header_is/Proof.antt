@@ -2,7 +2,6 @@
 use native.Mathlib.Omega.{arith}
 use Rattle.records.specs.Laws.Tests.{cases}
 use Rattle.guard_table.specs.Meaning.GuardTable.{headerIs}
-use borrow.Author.Needs.{needs}
 use Rattle.guard_table.proofs.heads.header_is.Statement.{statement}
 use Rattle.guard_table.proofs.heads.header_is.Tie as tie
 

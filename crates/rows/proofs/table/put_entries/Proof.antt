@@ -1,5 +1,5 @@
 -- `rows::table::put_entries`: the entries of the inputs before i are stored. Assumes nothing.
-use mathlib.Core.Path.{_≡_, refl, sym, ap, subst}
+use mathlib.Core.Path.{refl, sym, ap, subst}
 use Prim.Native.Nat.{ℕ, _+_, _-_, _*_, _^_, _≤_, _<_}
 use native.Mathlib.Omega.{arith}
 use lib.Arith.{digits-lt}
@@ -31,7 +31,7 @@ abbrev args : (c : tie.After-follow Inv-loop μ-loop) → tie.Start Inv-loop μ-
 args c = entry (c .before)
 
 abbrev found : tie.After-entry-at Inv-loop μ-loop → tie.After-follow Inv-loop μ-loop
-found c = c .before .before .before .before
+found c = c .before .before .before
 
 -- the input is one of those that there are
 low : (c : tie.In-loop Inv-loop μ-loop) → c .before .loop .i < 2 ^ entry c .args .lines
@@ -62,36 +62,36 @@ loop-holds c = (omega arith, no-block)
 follow-requires : tie.Need-follow-requires Inv-loop μ-loop
 follow-requires c κs = (entry c .pre .0 .following, (entry c .pre .0 .state, c .loop-test .taken))
 
-mul-t16 : tie.Need-mul-t16 Inv-loop μ-loop
-mul-t16 c = omega (arith, inside c)
+mul-output : tie.Need-mul-output Inv-loop μ-loop
+mul-output c = omega (arith, inside c)
 
-add-t17 : tie.Need-add-t17 Inv-loop μ-loop
-add-t17 c = omega (arith, inside c)
+add-output : tie.Need-add-output Inv-loop μ-loop
+add-output c = omega (arith, inside c)
 
-shared-slice-read-t19 : tie.Need-shared-slice-read-t19 Inv-loop μ-loop
-shared-slice-read-t19 c = omega (arith, inside (c .before))
+shared-slice-read-output : tie.Need-shared-slice-read-output Inv-loop μ-loop
+shared-slice-read-output c = omega (arith, inside (c .before))
 
-mul-t20 : tie.Need-mul-t20 Inv-loop μ-loop
-mul-t20 c = omega (arith, some (c .before) .0)
+mul-next : tie.Need-mul-next Inv-loop μ-loop
+mul-next c = omega (arith, some (c .before) .0)
 
-shared-slice-read-t22 : tie.Need-shared-slice-read-t22 Inv-loop μ-loop
-shared-slice-read-t22 c = omega (arith, some (c .before .before) .0)
+shared-slice-read-next : tie.Need-shared-slice-read-next Inv-loop μ-loop
+shared-slice-read-next c = omega (arith, some (c .before .before) .0)
 
-sub-t23 : tie.Need-sub-t23 Inv-loop μ-loop
-sub-t23 c = omega (arith, some (c .before .before) .1)
+sub-next : tie.Need-sub-next Inv-loop μ-loop
+sub-next c = omega (arith, some (c .before .before) .1)
 
 entry-at-requires : tie.Need-entry-at-requires Inv-loop μ-loop
 entry-at-requires c κs =
-    let at = c .before .before .before in
+    let at = c .before .before in
     let row = args at .pre .1 .1 in
     let few : 2 ^ args at .args .lines ≤ 16 = pow-mono {j = maxInputs} (row .inputs-most) in
     (row .inputs-most, (row .place-most, omega (arith, low (at .before))))
 
 put-entry-requires : tie.Need-put-entry-requires Inv-loop μ-loop
 put-entry-requires c κs =
-    let at = found c in
+    let at = found (c .before) in
     let fits = entry-inside (args at .pre .1 .1) (low (at .before)) in (
-      omega (arith, fits .ends, c .entry-at .ensures, same-blocks (at .before .before .loop .inv .1)),
+      omega (arith, fits .ends, c .before .entry-at .ensures, same-blocks (at .before .before .loop .inv .1)),
       omega (arith, some at .1, some at .2),
     )
 
@@ -105,12 +105,12 @@ loop-again : tie.Need-loop-again Inv-loop μ-loop
 unfolding chosen numbered
 loop-again c =
     let done = c .before .before in
-    let at = found (done .before) in
+    let at = found (done .before .before) in
     let a = args at .args in
     let l = at .before .before .loop in (
       omega arith,
       more-blocks (l .inv .1) (λ q. refl)
-          (entry-stored (l .result) (a .lines) (a .place) (l .i) (getD (a .choices .now) (a .k * a .inputs + l .i) 0) (done .before .entry-at .ensures)
+          (entry-stored (l .result) (a .lines) (a .place) (l .i) (getD (a .choices .now) (a .k * a .inputs + l .i) 0) (done .before .before .entry-at .ensures)
           (ap (λ (x : ℕ). getD (a .numbers .now) x 0 - 1) (at .follow .ensures)) (done .put-entry .ensures)),
     )
 
@@ -128,12 +128,12 @@ put-entries-spec =
     μ-loop
     loop-holds
     follow-requires
-    mul-t16
-    add-t17
-    shared-slice-read-t19
-    mul-t20
-    shared-slice-read-t22
-    sub-t23
+    mul-output
+    add-output
+    shared-slice-read-output
+    mul-next
+    shared-slice-read-next
+    sub-next
     entry-at-requires
     put-entry-requires
     add-i

@@ -1,5 +1,4 @@
 -- `guard_table::layout::Layout::entry_at`: a sum. Assumes nothing.
-use native.Mathlib.Omega.{arith}
 use Rattle.guard_table.specs.Meaning.GuardTable.{entryAt}
 use borrow.Author.Needs.{needs}
 use Rattle.guard_table.proofs.layout.Layout.entry_at.Statement.{statement}
