@@ -1,4 +1,4 @@
--- The guard of a sheet: demand 3 (Meaning), the model of its table (Table), what its maker promises (Promises). The rest are laws.
+-- The guard of a sheet: its states and demand 3 (Meaning), and what its maker promises (Promises).
 pub mod Meaning
 pub mod Model
 pub mod Promises

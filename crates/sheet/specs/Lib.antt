@@ -1,4 +1,4 @@
--- Sheets: what they mean (Decoded), where a reader finds them (Layout, Where), and how it reads (Head, Monitor, Reader).
+-- Sheets: what they mean, and grounds 1 to 6 (Meaning), and how a reader finds them in their bytes (Model).
 pub mod Meaning
 pub mod Model
 pub mod Promises

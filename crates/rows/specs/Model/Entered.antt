@@ -1,4 +1,4 @@
--- The entries that the code writes, read from work memory, and why each of them can be read.
+-- The entries that the code writes, read from work memory, and what reading them relies on.
 -- Assumes nothing.
 use mathlib.Core.List.{List}
 use Prim.Native.Nat.{ℕ, _-_, _≤_, _<_}
