@@ -5,13 +5,24 @@ use crate::numbers::change_number;
 use crate::numbers::load_number;
 use crate::numbers::step_answer;
 use crate::numbers::step_number;
+use board::Board;
 ghost use mathlib.Core.Path.{_≡_};
 ghost use lib.ListN.{length};
 ghost use Rattle.bytes.specs.Meaning.Board.{boardLength};
-ghost use Rattle.bytes.specs.Promises.Calls.{Loads, Steps, Rewinds, Unloads};
+ghost use Rattle.bytes.specs.Promises.Calls.{bytesAfter, Loads, Steps, Rewinds, Unloads};
 
 pub mod layout;
 pub mod numbers;
+
+// Writes the board that a call hands back, where the call was not refused.
+fn hand_back(board: &mut [u8], number: u32, after: Board)
+    requires { ⌜ length (now board) ≡ boardLength ⌝ }
+    ensures { λ _. ⌜ now (board .exit) ≡ bytesAfter (now (board .entry)) number after ⌝ }
+{
+    if number == 0 {
+        put_board(board, after);
+    }
+}
 
 // Loads a table.
 pub fn load(board: &mut [u8], table: &[u8]) -> u32
@@ -22,9 +33,7 @@ pub fn load(board: &mut [u8], table: &[u8]) -> u32
     let after = loading.board;
     let answer = loading.answer;
     let number = load_number(answer);
-    if number == 0 {
-        put_board(board, after);
-    }
+    hand_back(board, number, after);
     number
 }
 
@@ -36,11 +45,8 @@ pub fn step(board: &mut [u8], table: &[u8], input: u8) -> u32
     let stepping = board_in(board).step(table, input);
     let after = stepping.board;
     let answer = stepping.answer;
-    let given = step_answer(answer);
-    if step_number(answer) == 0 {
-        put_board(board, after);
-    }
-    given
+    hand_back(board, step_number(answer), after);
+    step_answer(answer)
 }
 
 // Begins the run anew.
@@ -52,9 +58,7 @@ pub fn rewind(board: &mut [u8]) -> u32
     let after = changing.board;
     let answer = changing.answer;
     let number = change_number(answer);
-    if number == 0 {
-        put_board(board, after);
-    }
+    hand_back(board, number, after);
     number
 }
 
@@ -67,8 +71,6 @@ pub fn unload(board: &mut [u8]) -> u32
     let after = changing.board;
     let answer = changing.answer;
     let number = change_number(answer);
-    if number == 0 {
-        put_board(board, after);
-    }
+    hand_back(board, number, after);
     number
 }

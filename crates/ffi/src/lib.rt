@@ -7,7 +7,7 @@ ghost use mathlib.Core.Path.{_≡_};
 ghost use Prim.Native.Nat.{_≤_};
 ghost use lib.ListN.{length};
 ghost use Rattle.records.specs.Meaning.Numbers.{zeros};
-ghost use Rattle.guard.specs.Model.Lent.{lent};
+ghost use Rattle.guard.specs.Promises.Guard.{lent};
 ghost use Rattle.bytes.specs.Meaning.Board.{boardLength};
 ghost use Rattle.bytes.specs.Promises.Calls.{Loads, Steps, Rewinds, Unloads};
 ghost use Rattle.ffi.specs.Promises.Library.{ReportsSupervisor, ReportsGuard};

@@ -1,3 +1,3 @@
 -- The listing program: what it prints (Printed), and the laws behind it.
-pub mod Model
+pub mod Promises
 pub mod Laws

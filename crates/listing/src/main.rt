@@ -9,7 +9,7 @@ ghost use mathlib.Core.Path.{_≡_};
 ghost use Prim.Native.Nat.{_≤_};
 ghost use lib.ListN.{length};
 ghost use Rattle.report.specs.Promises.Report.{textLength, listedLength};
-ghost use Rattle.listing.specs.Model.Printed.{guardText, printed, Prints};
+ghost use Rattle.listing.specs.Promises.Printed.{guardText, printed, Prints};
 
 // A sheet is read up to one byte more than it may have.
 fn main() {

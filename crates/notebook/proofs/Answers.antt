@@ -15,8 +15,7 @@ use Rattle.supervisor.specs.Promises.Supervisor.{workOk, MakesSupervisor}
 use Rattle.solve.specs.declared.made.Made.{Made}
 use Rattle.plan.specs.Model.Table.{guardTableOf, statesOf}
 use Rattle.guard.specs.Promises.Guard as guard
-use Rattle.guard.specs.Promises.Guard.{Work, MakesGuard}
-use Rattle.guard.specs.Model.Lent.{lent}
+use Rattle.guard.specs.Promises.Guard.{Work, lent, MakesGuard}
 use Rattle.notebook.specs.Model.Counters.{sheetBytes, length-sheet, Answered}
 
 -- a new array's length

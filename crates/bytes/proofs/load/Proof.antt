@@ -1,6 +1,5 @@
 -- `bytes::load`: the call below, by bytes. Assumes nothing.
-use native.Mathlib.Omega.{arith}
-use Rattle.bytes.proofs.Handing.{written, untouched, loads}
+use Rattle.bytes.proofs.Handing.{loads}
 use borrow.Author.Needs.{needs}
 use Rattle.bytes.proofs.load.Statement.{statement}
 use Rattle.bytes.proofs.load.Tie as tie
@@ -14,29 +13,18 @@ load-requires c κs = search needs
 load-number-requires : tie.Need-load-number-requires
 load-number-requires c κs = search needs
 
-put-board-requires : tie.Need-put-board-requires
-put-board-requires c κs = search needs
+hand-back-requires : tie.Need-hand-back-requires
+hand-back-requires c κs = search needs
 
 same-length : tie.Need-same-length
 same-length c = search needs
 
 returns : tie.Need-returns
 returns c =
-    let put = c .before .before in
-    let known = put .before .before in
-    let answered = known .before in
+    let handed = c .before .before in
+    let answered = handed .before .before in
     let called = answered .before .before in
-    loads _ _ _ _ _ _ (called .before .board-in .ensures) (called .load .ensures) (answered .load-number .ensures)
-    (written _ _ _ _ (omega (arith, known .if1 .taken)) (put .put-board .ensures))
-
-same-length-2 : tie.Need-same-length-2
-same-length-2 c = search needs
-
-returns-2 : tie.Need-returns-2
-returns-2 c =
-    let answered = c .before in
-    let called = answered .before .before in
-    loads _ _ _ _ _ _ (called .before .board-in .ensures) (called .load .ensures) (answered .load-number .ensures) (untouched _ _ _ (c .if1 .left))
+    loads _ _ _ _ _ _ (called .before .board-in .ensures) (called .load .ensures) (answered .load-number .ensures) (handed .hand-back .ensures)
 
 pub load-spec : {M : Type 1} → statement M
 load-spec =
@@ -45,8 +33,6 @@ load-spec =
     board-in-requires
     load-requires
     load-number-requires
-    put-board-requires
+    hand-back-requires
     same-length
-    returns
-    same-length-2
-    returns-2)
+    returns)

@@ -1,4 +1,4 @@
--- A head's fields: their tests in the order in which the code makes them.
+-- A head's fields in bounds (document 01, ground 3), by its bytes.
 -- Assumes nothing.
 use mathlib.Core.Bool.{Bool, not, _&&_, _||_}
 use mathlib.Core.List.{List}

@@ -1,4 +1,4 @@
--- A monitor's fields: their tests in the order in which the code makes them.
+-- A monitor's fields in bounds (document 01, ground 4), by its bytes.
 -- Assumes nothing.
 use mathlib.Core.Bool.{Bool, false, cond, not, _&&_}
 use mathlib.Core.List.{List}

@@ -9,8 +9,8 @@ use lib.ListN.{length}
 use borrow.Author.Tests.{leb-true}
 use Rattle.records.specs.Laws.Tests.{and-left, and-right}
 use Rattle.plan.specs.Model.Planned.{Room}
-use Rattle.guard.specs.Promises.Guard.{Work, workOk}
-use Rattle.guard.specs.Model.Lent.{lent, Long}
+use Rattle.guard.specs.Promises.Guard.{Work, lent, workOk}
+use Rattle.guard.specs.Model.Lent.{Long}
 
 work-long : (w : Work) → workOk w ≡ true → Long w
 unfolding workOk

@@ -1,24 +1,8 @@
--- The lengths of the work memory that was lent, and that each is long enough.
+-- That each length of the work memory that was lent is long enough.
 -- Assumes nothing.
-use Prim.Native.Nat.{ℕ, _≤_}
+use Prim.Native.Nat.{_≤_}
 use Rattle.supervisor.specs.Promises.Supervisor.{tuplesLength, cellsLength, droppedLength}
 use Rattle.guard.specs.Promises.Guard.{gainsLength, bonusesLength, valuesLength, choicesLength, orderLength, Work}
-
--- the lengths that were lent
-abbrev pub lent : ℕ → ℕ → ℕ → ℕ → ℕ → ℕ → ℕ → ℕ → ℕ → ℕ → Work
-lent tuples cells dropped gains bonuses values next choices order numbers =
-    record {
-      tuples = tuples;
-      cells = cells;
-      dropped = dropped;
-      gains = gains;
-      bonuses = bonuses;
-      values = values;
-      next = next;
-      choices = choices;
-      order = order;
-      numbers = numbers;
-    }
 
 -- each is long enough
 pub record Long (w : Work) : Type 0 where

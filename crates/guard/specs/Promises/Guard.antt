@@ -47,6 +47,22 @@ pub record Work : Type 0 where
   pub order : ℕ
   pub numbers : ℕ
 
+-- by name, from the slices in turn
+abbrev pub lent : ℕ → ℕ → ℕ → ℕ → ℕ → ℕ → ℕ → ℕ → ℕ → ℕ → Work
+lent tuples cells dropped gains bonuses values next choices order numbers =
+    record {
+      tuples = tuples;
+      cells = cells;
+      dropped = dropped;
+      gains = gains;
+      bonuses = bonuses;
+      values = values;
+      next = next;
+      choices = choices;
+      order = order;
+      numbers = numbers;
+    }
+
 unfoldable pub workOk : Work → Bool
 workOk w =
     leb tuplesLength (w .tuples)

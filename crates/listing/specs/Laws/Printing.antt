@@ -40,7 +40,7 @@ use Rattle.text.specs.Meaning.Listing.{listing, listingOf, tooLongText}
 use Rattle.report.specs.Promises.Report.{Writes, textLength, outcomeDue, outcomeText, listedLength}
 use Rattle.report.specs.Laws.Answers.{writes-fits, outcome-most, listing-made}
 use Rattle.report.specs.declared.Listed.{Listed}
-use Rattle.listing.specs.Model.Printed.{sheetMost, sheetGround, guardText, printed, Prints}
+use Rattle.listing.specs.Promises.Printed.{sheetMost, sheetGround, guardText, printed, Prints}
 
 -- ---- a sheet that is accepted
 

@@ -6,8 +6,7 @@ use lib.ListN.{length}
 use Rattle.records.specs.Meaning.Numbers.{zeros}
 use Rattle.solve.specs.Model.Making.{Answers}
 use Rattle.plan.specs.Model.Table.{guardTableOf, statesOf}
-use Rattle.guard.specs.Promises.Guard.{Work, MakesGuard}
-use Rattle.guard.specs.Model.Lent.{lent}
+use Rattle.guard.specs.Promises.Guard.{Work, lent, MakesGuard}
 use Rattle.guard.specs.Laws.Lent.{work-room}
 use Rattle.guard.specs.Laws.Written.{guard-promise}
 use Rattle.guard.proofs.make.Guard.make.Statement.{statement}

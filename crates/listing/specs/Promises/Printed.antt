@@ -1,4 +1,4 @@
--- What is printed for a sheet (document 01, 'Notebook sheets').
+-- What the listing program prints for a sheet (document 01, 'Notebook sheets'), for all bytes on its standard input.
 -- Assumes nothing.
 use mathlib.Core.Path.{_≡_}
 use mathlib.Core.Bool.{cond}
