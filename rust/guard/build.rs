@@ -1,4 +1,4 @@
-//! Finds the archive that `rt staticlib ffi` writes: in the folder that GUARD_STATICLIB names, or
+//! Finds the archive that `rt staticlib hundlezoqa_c` writes: in the folder that GUARD_STATICLIB names, or
 //! in target/staticlib of the repository. Without it the crate builds too, and its calls panic.
 
 use std::env;
@@ -12,11 +12,11 @@ fn main() {
         || PathBuf::from(env!("CARGO_MANIFEST_DIR")).join("../../target/staticlib"),
         PathBuf::from,
     );
-    let archive = folder.join("libffi.a");
+    let archive = folder.join("libhundlezoqa_c.a");
     println!("cargo::rerun-if-changed={}", archive.display());
     if archive.is_file() {
         println!("cargo::rustc-link-search=native={}", folder.display());
-        println!("cargo::rustc-link-lib=static=ffi");
+        println!("cargo::rustc-link-lib=static=hundlezoqa_c");
         println!("cargo::rustc-cfg=guard_library");
         println!("cargo::metadata=linked=1");
     } else if named.is_some() {

@@ -1,6 +1,6 @@
 // What steps earn, worked out once: for each product state by the soft monitors, for each letter by the equal lines.
-use product::step::match_reward;
-use product::step::soft_reward;
+use product::rewards::match_reward;
+use product::rewards::soft_reward;
 use sheet::layout::Sheet;
 use states::tuples::load_tuple;
 ghost use mathlib.Core.Path.{_≡_};

@@ -1,7 +1,7 @@
 // Planning: what steps earn, what product states are worth, what is chosen, and the states that are then met.
 use crate::gains::fill_bonuses;
 use crate::gains::fill_gains;
-use rows::states::guard_states;
+use guard_rows::states::guard_states;
 use sheet::layout::Sheet;
 use values::choice::fill_choices;
 use values::values::value_rows;

@@ -2,7 +2,7 @@
 use crate::horizon::plan;
 use guard_table::layout::Layout;
 use records::numbers::pow2;
-use rows::table::write;
+use guard_rows::table::write;
 use sheet::layout::Refusal;
 use sheet::layout::Verdict;
 use solve::made::Made;

@@ -1,15 +1,15 @@
 // The listing of a guard table, and what is said where there is none, as text.
 use guard_table::loadable::is_loadable;
 use solve::made::Made;
-use text::lengths::listing_length;
-use text::lengths::number_length;
-use text::put_byte;
-use text::put_labelled;
-use text::put_listing;
-use text::put_word;
+use listing_text::lengths::listing_length;
+use listing_text::lengths::number_length;
+use listing_text::put_byte;
+use listing_text::put_labelled;
+use listing_text::put_listing;
+use listing_text::put_word;
 ghost use mathlib.Core.Bool.{true};
 ghost use Rattle.guard_table.specs.Meaning.Loadable.{loadable};
-ghost use Rattle.text.specs.Meaning.Listing.{listingOf, refusedText, tooLongText};
+ghost use Rattle.listing_text.specs.Meaning.Listing.{listingOf, refusedText, tooLongText};
 ghost use Rattle.report.specs.Promises.Report.{outcomeDue, outcomeText, Writes};
 
 // What a writer of text answers: the bytes of its text, or why it wrote none.

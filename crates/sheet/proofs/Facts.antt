@@ -6,7 +6,7 @@ use mathlib.Core.List.{List}
 use Prim.Native.Nat.{ℕ, _≤_}
 use borrow.Author.Tests.{leb-true}
 use Rattle.records.specs.Laws.Tests.{and-left}
-use Rattle.fields.specs.Meaning.Monitor.{monitorOk}
+use Rattle.sheet_fields.specs.Meaning.Monitor.{monitorOk}
 
 -- a monitor's body holds its four numbers
 pub monitor-least : (s : List ℕ) (mode site outputs start size : ℕ) → monitorOk s mode site outputs start size ≡ true → 4 ≤ size

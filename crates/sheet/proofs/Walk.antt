@@ -15,9 +15,9 @@ use Rattle.records.specs.declared.cursor.Found.{Found}
 use Rattle.records.specs.declared.cursor.Found.the-variants as found
 use Rattle.sheet.specs.Meaning.Decoded.{inputsOf}
 use Rattle.sheet.specs.Model.Layout.{withMonitor, accepted, refused}
-use Rattle.fields.specs.Meaning.Places.{modeAt, siteAt, outputsAt, horizonAt}
-use Rattle.fields.specs.Meaning.Head.{headOk}
-use Rattle.fields.specs.Meaning.Monitor.{monitorOk}
+use Rattle.sheet_fields.specs.Meaning.Places.{modeAt, siteAt, outputsAt, horizonAt}
+use Rattle.sheet_fields.specs.Meaning.Head.{headOk}
+use Rattle.sheet_fields.specs.Meaning.Monitor.{monitorOk}
 use Rattle.sheet.specs.Model.Head.{headSheet, readHead}
 use Rattle.sheet.specs.Model.Monitor.{monitorAt, takeMonitor}
 use Rattle.sheet.specs.Model.Reader.{takeRecord, onFound, readRecords}
@@ -26,7 +26,7 @@ use Rattle.sheet.specs.declared.layout.Refusal.{Refusal}
 use Rattle.sheet.specs.declared.layout.Refusal.the-variants.{Truncated, Misplaced, BadHead, BadMonitor, SeventhMonitor, LongHorizon}
 use Rattle.sheet.specs.declared.layout.Verdict.the-variants.{Accepted, Refused}
 use Rattle.sheet.specs.declared.layout.Reading.{Reading}
-use Rattle.fields.specs.Laws.Facts.{head-facts}
+use Rattle.sheet_fields.specs.Laws.Facts.{head-facts}
 
 -- the lines that monitors read: site lines and outputs
 abbrev pub lines : Sheet → ℕ

@@ -3,16 +3,16 @@ use crate::layout::Monitor;
 use crate::layout::Reading;
 use crate::layout::Refusal;
 use crate::layout::Sheet;
-use fields::head::head_ok;
-use fields::head::inputs_of;
-use fields::head::literal_at;
+use sheet_fields::head::head_ok;
+use sheet_fields::head::inputs_of;
+use sheet_fields::head::literal_at;
 use records::limits::Limits;
 use records::limits::horizon_ok;
 ghost use mathlib.Core.Path.{_≡_};
 ghost use Prim.Native.Nat.{_+_, _≤_};
 ghost use lib.ListN.{length};
 ghost use Rattle.records.specs.Meaning.Limits.{maxInputs, maxOutputs};
-ghost use Rattle.fields.specs.Meaning.Places.{siteAt, outputsAt, literalsFrom};
+ghost use Rattle.sheet_fields.specs.Meaning.Places.{siteAt, outputsAt, literalsFrom};
 ghost use Rattle.sheet.specs.Model.Head.{headSheet, readHead};
 
 // The sheet of a head that is in order, with no monitors yet.

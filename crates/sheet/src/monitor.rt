@@ -3,18 +3,18 @@ use crate::layout::Monitor;
 use crate::layout::Reading;
 use crate::layout::Refusal;
 use crate::layout::Sheet;
-use fields::monitor::bytes_most;
-use fields::monitor::letters_of;
-use fields::monitor::role_ok;
-use fields::monitor::states_ok;
-use fields::places::Fixed;
+use sheet_fields::monitor::bytes_most;
+use sheet_fields::monitor::letters_of;
+use sheet_fields::monitor::role_ok;
+use sheet_fields::monitor::states_ok;
+use sheet_fields::places::Fixed;
 use records::limits::Limits;
 ghost use mathlib.Core.Path.{_≡_};
 ghost use Prim.Native.Nat.{_+_, _<_, _≤_};
 ghost use lib.ListN.{length};
 ghost use Rattle.records.specs.Meaning.Limits.{maxLines};
-ghost use Rattle.fields.specs.Meaning.Places.{acceptFrom};
-ghost use Rattle.fields.specs.Meaning.Monitor.{monitorOk};
+ghost use Rattle.sheet_fields.specs.Meaning.Places.{acceptFrom};
+ghost use Rattle.sheet_fields.specs.Meaning.Monitor.{monitorOk};
 ghost use Rattle.sheet.specs.Model.Monitor.{monitorAt, takeMonitor};
 
 // Whether a monitor's body is in order; its tables are looked at only where its numbers are.

@@ -14,7 +14,7 @@ use Rattle.sheet.specs.Model.Where.{decoded, Fits}
 use Rattle.sheet.specs.declared.layout.Sheet.{Sheet}
 use Rattle.sheet.specs.declared.layout.Refusal.the-variants as ground
 use Rattle.product.specs.Model.Numbered.{stateCount}
-use Rattle.masks.specs.Model.Rows.{tableRow, tableLength}
+use Rattle.supervisor_table.specs.Model.Rows.{tableRow, tableLength}
 use Rattle.supervisor.specs.Model.Table.{supervisorTable}
 use Rattle.solve.specs.Model.Solve.{Solution}
 use Rattle.solve.specs.Model.Making.{Judges}

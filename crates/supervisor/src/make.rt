@@ -1,7 +1,7 @@
 // The maker of supervisor tables.
-use masks::put_head;
-use masks::put_rows;
-use masks::table_length;
+use supervisor_table::put_head;
+use supervisor_table::put_rows;
+use supervisor_table::table_length;
 use records::clear::clear8;
 use records::clear::clear16;
 use records::numbers::pow2;

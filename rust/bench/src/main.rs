@@ -202,7 +202,7 @@ fn main() {
         Effort { sample: Duration::from_micros(600), samples: 150 }
     };
     if !guard::LINKED {
-        println!("built without the library (rt staticlib ffi): the reference alone\n");
+        println!("built without the library (rt staticlib hundlezoqa_c): the reference alone\n");
     }
     println!("{:<44} {:>10} {:>10} {:>7}", "", "rattle", "rust", "ratio");
     let timed = [

@@ -43,7 +43,7 @@ fn check_guard(made: &Guard, sheet: &Sheet, product: &Product, kept: &Kept, valu
 }
 
 #[test]
-#[cfg_attr(not(guard_library), ignore = "needs the library: rt staticlib ffi")]
+#[cfg_attr(not(guard_library), ignore = "needs the library: rt staticlib hundlezoqa_c")]
 fn tables_are_read_as_they_are_meant() {
     let mut work = Work::new();
     let mut made = 0;
@@ -74,7 +74,7 @@ fn tables_are_read_as_they_are_meant() {
 
 /// Each call of a board in turn, with its fields.
 #[test]
-#[cfg_attr(not(guard_library), ignore = "needs the library: rt staticlib ffi")]
+#[cfg_attr(not(guard_library), ignore = "needs the library: rt staticlib hundlezoqa_c")]
 fn a_board_runs() {
     let never_on_twice = [0, 0, 3, 0, 1, 1, 0, 0, 1, 0, 2, 2, 2];
     let sheet =

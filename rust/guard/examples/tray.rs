@@ -1,7 +1,7 @@
 //! A tray lock: one line in (a tray is there), one line out (open). Never open twice running; open
 //! when a tray is there, if that can be.
 //!
-//! Run with `cargo run --offline --example tray`, after `rt staticlib ffi`.
+//! Run with `cargo run --offline --example tray`, after `rt staticlib hundlezoqa_c`.
 
 use guard::{Board, Guard, Refusal, Supervisor, Work};
 

@@ -1,7 +1,7 @@
 //! The library's calls as they are: one function each, with the numbers of document 01.
 //!
 //! This is the only module with unsafe code, and the only place that knows the signatures, which
-//! are those of crates/ffi/src/lib.rt. For each, 0 is "not refused". A slice crosses as a pointer
+//! are those of crates/hundlezoqa_c/src/lib.rt. For each, 0 is "not refused". A slice crosses as a pointer
 //! and a length in elements; the library reads through `*const`, reads and writes through `*mut`,
 //! and keeps no pointer when it returns.
 
@@ -25,7 +25,7 @@ macro_rules! library {
             #[cfg(not(guard_library))]
             #[allow(clippy::too_many_arguments)]
             unsafe fn $name($(_: $type),*) -> $answer {
-                panic!("built without the library: run `rt staticlib ffi` and build again")
+                panic!("built without the library: run `rt staticlib hundlezoqa_c` and build again")
             }
         )*
     };

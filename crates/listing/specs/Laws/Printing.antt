@@ -36,7 +36,7 @@ use Rattle.plan.specs.Laws.Reaching.{guard-fits}
 use Rattle.plan.specs.Laws.Solved.{sheet-horizon}
 use Rattle.guard.specs.Laws.Running.{table-loads}
 use Rattle.plan.specs.Laws.Judged.{length-guard}
-use Rattle.text.specs.Meaning.Listing.{listing, listingOf, tooLongText}
+use Rattle.listing_text.specs.Meaning.Listing.{listing, listingOf, tooLongText}
 use Rattle.report.specs.Promises.Report.{Writes, textLength, outcomeDue, outcomeText, listedLength}
 use Rattle.report.specs.Laws.Answers.{writes-fits, outcome-most, listing-made}
 use Rattle.report.specs.declared.Listed.{Listed}

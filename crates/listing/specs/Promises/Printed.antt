@@ -10,7 +10,7 @@ use lib.Seq.{sets}
 use Rattle.sheet.specs.Meaning.Refusals.{sheetNumber, firstNumber}
 use Rattle.solve.specs.Model.Making.{sheetOf, manyNumber, lostNumber}
 use Rattle.plan.specs.Model.Table.{guardTableOf}
-use Rattle.text.specs.Meaning.Listing.{listingOf, refusedText, tooLongText}
+use Rattle.listing_text.specs.Meaning.Listing.{listingOf, refusedText, tooLongText}
 
 -- the most bytes of a sheet
 abbrev pub sheetMost : ℕ

@@ -13,10 +13,10 @@ use Rattle.game.specs.Model.Numbering.{explore, visit, met, meet, add, find}
 use Rattle.game.specs.Model.Choice.{before, against, leader, choose}
 use Rattle.sheet.specs.Meaning.Decoded.{inputsOf, lettersOf, encode, encodeHead, encodeMonitor}
 use Rattle.sheet.specs.Model.Layout.{withMonitor}
-use Rattle.fields.specs.Meaning.Head.{siteOk, freshLine, literalOk, literalsOk, numbersOk, headOk}
-use Rattle.fields.specs.Model.Head.{literalAt}
+use Rattle.sheet_fields.specs.Meaning.Head.{siteOk, freshLine, literalOk, literalsOk, numbersOk, headOk}
+use Rattle.sheet_fields.specs.Model.Head.{literalAt}
 use Rattle.sheet.specs.Model.Head.{headSheet, readHead}
-use Rattle.fields.specs.Meaning.Monitor.{roleOk, statesOk, bytesMost, monitorOk}
+use Rattle.sheet_fields.specs.Meaning.Monitor.{roleOk, statesOk, bytesMost, monitorOk}
 use Rattle.sheet.specs.Model.Monitor.{monitorAt, takeMonitor}
 use Rattle.sheet.specs.Model.Reader.{takeRecord, onFound, readRecords, firstFound, reading}
 use Rattle.sheet.specs.Meaning.Refusals.{headNumber, monitorNumber, recordsNumber, sheetNumber}
@@ -29,7 +29,7 @@ use Rattle.product.specs.Model.Numbered.{statesAfter, productStates, stateCount
 use Rattle.rounds.specs.Model.Rounds.{cellAt, isIn, leadsIn, answered, stays, entryAfter, round, rounds, settled, maskOf}
 use Rattle.solve.specs.Model.Steps.{cellsOf, droppedOf}
 use Rattle.supervisor.specs.Model.Table.{tableHead, tableOf, supervisorTable}
-use Rattle.masks.specs.Model.Rows.{keptFlag, tableRow}
+use Rattle.supervisor_table.specs.Model.Rows.{keptFlag, tableRow}
 use Rattle.solve.specs.Model.Making.{sheetOf, manyNumber, lostNumber, roomNumber, tableNumber, makingNumber}
 use Rattle.values.specs.Meaning.Order.{holds}
 use Rattle.values.specs.Model.Rank.{rankBy, rank}

@@ -18,7 +18,7 @@ use Rattle.solve.specs.Model.Making.{Judges}
 use Rattle.solve.specs.Laws.Judging.{judges-lost, judges-short, judges-made}
 use Rattle.solve.specs.declared.made.Made.the-variants.{Table, Refused}
 use Rattle.values.specs.Model.Values.{Game}
-use Rattle.rows.specs.Model.Entered.{tableBy}
+use Rattle.guard_rows.specs.Model.Entered.{tableBy}
 use Rattle.plan.specs.Model.Table.{guardCount, outputOf, nextOf, guardOver, guardTableOf, statesOf}
 use Rattle.plan.specs.Laws.Solved.{few}
 use Rattle.plan.specs.Model.Planned.{Playable, Planned}

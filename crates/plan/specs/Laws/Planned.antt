@@ -39,7 +39,7 @@ use Rattle.values.specs.Laws.Choices.{choices-following}
 use Rattle.plan.specs.Model.Table.{guardOf, guardCount}
 use Rattle.plan.specs.Laws.Agree.{SameGuard, choicesBy, stored-guard}
 use Rattle.plan.specs.Laws.Solved.{sheet-horizon, few, words-most, layout-literals, stored, sized, code-table}
-use Rattle.rows.specs.Model.Entered.{numbered, tableBy}
+use Rattle.guard_rows.specs.Model.Entered.{numbered, tableBy}
 use Rattle.plan.specs.Model.Planned.{Playable, Planned}
 
 -- ---- a layout's numbers

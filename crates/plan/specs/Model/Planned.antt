@@ -9,7 +9,7 @@ use Rattle.sheet.specs.Meaning.Decoded.{Decoded, inputLines}
 use Rattle.solve.specs.Model.Solve.{Solution}
 use Rattle.values.specs.Model.Values.{Game}
 use Rattle.plan.specs.Model.Table.{guardCount, guardOver}
-use Rattle.rows.specs.Model.Entered.{tableBy, Tabled}
+use Rattle.guard_rows.specs.Model.Entered.{tableBy, Tabled}
 
 -- work memory that is long enough for every sheet
 pub record Room (tuples cells dropped gains bonuses values next choices order numbers : List ℕ) : Type 0 where

@@ -20,11 +20,11 @@ use Rattle.guard_table.specs.Laws.GuardTable.{table-head, entry-output, entry-n
 use Rattle.guard_table.specs.Meaning.Loadable.{loadable, entryOk}
 use Rattle.guard_table.specs.Laws.Facts.{loadable-head, loadable-sized, loadable-entry}
 use Rattle.guard_table.specs.Model.Inside.{Sized}
-use Rattle.text.specs.Meaning.Listing.{decimal, lineEnd, headLine, rowText, listing, refusedText, entryOf, rowOf, listingOf}
-use Rattle.text.specs.Model.Put.{Put}
-use Rattle.text.specs.Laws.Digits.{one-digit, two-most, three-most}
-use Rattle.text.specs.Laws.Pieces.{put-same}
-use Rattle.text.specs.Laws.Lengths.{length-entry, length-row, length-head, length-listing, length-refused}
+use Rattle.listing_text.specs.Meaning.Listing.{decimal, lineEnd, headLine, rowText, listing, refusedText, entryOf, rowOf, listingOf}
+use Rattle.listing_text.specs.Model.Put.{Put}
+use Rattle.listing_text.specs.Laws.Digits.{one-digit, two-most, three-most}
+use Rattle.listing_text.specs.Laws.Pieces.{put-same}
+use Rattle.listing_text.specs.Laws.Lengths.{length-entry, length-row, length-head, length-listing, length-refused}
 use Rattle.sheet.specs.Meaning.Grounds.{groundNumber}
 use Rattle.sheet.specs.declared.layout.Refusal.{Refusal}
 use Rattle.sheet.specs.declared.layout.Refusal.the-variants.{Truncated, Misplaced, BadHead, BadMonitor, SeventhMonitor, LongHorizon, TooManyStates, Unrealizable, ShortResult, ShortWork}

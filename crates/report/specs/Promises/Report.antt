@@ -11,7 +11,7 @@ use Rattle.guard_table.specs.Meaning.Loadable.{loadable}
 use Rattle.sheet.specs.Meaning.Grounds.{groundNumber}
 use Rattle.solve.specs.declared.made.Made.{Made}
 use Rattle.solve.specs.declared.made.Made.the-variants.{Table, Refused}
-use Rattle.text.specs.Meaning.Listing.{listingOf, refusedText}
+use Rattle.listing_text.specs.Meaning.Listing.{listingOf, refusedText}
 use Rattle.report.specs.declared.Listed.{Listed}
 use Rattle.report.specs.declared.Listed.the-variants.{Text, NoTable, ShortText}
 

@@ -12,10 +12,10 @@ use Rattle.records.specs.Laws.Tests.{by-test}
 use Rattle.records.specs.Meaning.Records.{sizeAt, kindAt, bodyAt, endAt}
 use Rattle.records.specs.Laws.Cursor.{read-cases}
 use Rattle.records.specs.Meaning.Limits.{maxMonitors, horizonOk}
-use Rattle.fields.specs.Meaning.Places.{modeAt, siteAt, outputsAt, horizonAt}
-use Rattle.fields.specs.Meaning.Lines.{inputsOf}
-use Rattle.fields.specs.Meaning.Head.{headOk}
-use Rattle.fields.specs.Meaning.Monitor.{monitorOk}
+use Rattle.sheet_fields.specs.Meaning.Places.{modeAt, siteAt, outputsAt, horizonAt}
+use Rattle.sheet_fields.specs.Meaning.Lines.{inputsOf}
+use Rattle.sheet_fields.specs.Meaning.Head.{headOk}
+use Rattle.sheet_fields.specs.Meaning.Monitor.{monitorOk}
 use Rattle.sheet.specs.Model.Layout.{accepted, refused, withMonitor}
 use Rattle.sheet.specs.Meaning.Grounds.{verdictNumber}
 use Rattle.sheet.specs.Model.Head.{headSheet, readHead}

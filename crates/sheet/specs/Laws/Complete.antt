@@ -21,9 +21,9 @@ use Rattle.records.specs.Meaning.Limits.{maxLines, maxHorizon, maxMonitorStates
 use Rattle.sheet.specs.Meaning.Decoded.{Automaton, Decoded, noAutomaton, monitorOf, inputsOf, inputLines, lettersOf, letters, HeadOk, HorizonOk, MonitorOk, SheetOk, encodeHead, encodeMonitor, encode}
 use Rattle.sheet.specs.Meaning.Grounds.{verdictNumber}
 use Rattle.sheet.specs.Model.Where.{automaton, placed, decoded}
-use Rattle.fields.specs.Meaning.Places.{modeAt, siteAt, outputsAt, horizonAt, matchingAt, literalsFrom}
-use Rattle.fields.specs.Meaning.Head.{headOk}
-use Rattle.fields.specs.Laws.Facts.{site-le}
+use Rattle.sheet_fields.specs.Meaning.Places.{modeAt, siteAt, outputsAt, horizonAt, matchingAt, literalsFrom}
+use Rattle.sheet_fields.specs.Meaning.Head.{headOk}
+use Rattle.sheet_fields.specs.Laws.Facts.{site-le}
 use Rattle.sheet.specs.Model.Head.{headSheet}
 use Rattle.sheet.specs.Model.Reader.{reading}
 use Rattle.sheet.specs.Laws.Turns.{offset, upto, Turn, Chain, chain-reads, placed-at}

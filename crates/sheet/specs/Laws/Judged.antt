@@ -14,9 +14,9 @@ use Rattle.records.specs.Laws.Bounded.{all-at, all-of}
 use Rattle.records.specs.Meaning.Limits.{maxInputs, maxOutputs, maxLines, maxMonitorStates, literalEnd, linesOk}
 use Rattle.records.specs.Laws.Limits.{Lines, lines-facts}
 use Rattle.sheet.specs.Meaning.Decoded.{inputsOf, lettersOf}
-use Rattle.fields.specs.Meaning.Places.{headNumbers, modeAt, siteAt, outputsAt, matchingAt, literalsFrom, monitorNumbers, roleAt, weightAt, statesAt, firstAt, acceptFrom, rowsFrom}
-use Rattle.fields.specs.Meaning.Head.{siteOk, freshLine, literalOk, literalsOk, numbersOk, headOk}
-use Rattle.fields.specs.Meaning.Monitor.{roleOk, statesOk, bytesMost, monitorOk}
+use Rattle.sheet_fields.specs.Meaning.Places.{headNumbers, modeAt, siteAt, outputsAt, matchingAt, literalsFrom, monitorNumbers, roleAt, weightAt, statesAt, firstAt, acceptFrom, rowsFrom}
+use Rattle.sheet_fields.specs.Meaning.Head.{siteOk, freshLine, literalOk, literalsOk, numbersOk, headOk}
+use Rattle.sheet_fields.specs.Meaning.Monitor.{roleOk, statesOk, bytesMost, monitorOk}
 
 -- ---- the head
 

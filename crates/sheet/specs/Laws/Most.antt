@@ -10,10 +10,10 @@ use Rattle.records.specs.Meaning.Records.{readAt, foundNumber, sizeAt, kindAt, 
 use Rattle.records.specs.Meaning.Limits.{maxMonitors, horizonOk}
 use Rattle.records.specs.declared.cursor.Found.{Found}
 use Rattle.records.specs.declared.cursor.Found.the-variants.{Record, Truncated, End}
-use Rattle.fields.specs.Meaning.Places.{modeAt, siteAt, outputsAt, horizonAt}
-use Rattle.fields.specs.Meaning.Lines.{inputsOf}
-use Rattle.fields.specs.Meaning.Head.{headOk}
-use Rattle.fields.specs.Meaning.Monitor.{monitorOk}
+use Rattle.sheet_fields.specs.Meaning.Places.{modeAt, siteAt, outputsAt, horizonAt}
+use Rattle.sheet_fields.specs.Meaning.Lines.{inputsOf}
+use Rattle.sheet_fields.specs.Meaning.Head.{headOk}
+use Rattle.sheet_fields.specs.Meaning.Monitor.{monitorOk}
 use Rattle.sheet.specs.Meaning.Refusals.{firstNumber, headNumber, monitorNumber, laterNumber, recordsNumber, sheetNumber}
 
 either : (b : Bool) (x y : ℕ) → x ≤ 6 → y ≤ 6 → cond b x y ≤ 6

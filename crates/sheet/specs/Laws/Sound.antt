@@ -19,8 +19,8 @@ use Rattle.records.specs.Laws.Limits.{Horizon, horizon-facts}
 use Rattle.sheet.specs.Meaning.Decoded.{Decoded, monitorOf, inputsOf, lettersOf, HeadOk, HorizonOk, MonitorOk, SheetOk, encodeHead, encodeMonitor, encode}
 use Rattle.sheet.specs.Meaning.Grounds.{verdictNumber}
 use Rattle.sheet.specs.Model.Where.{width, automaton, decoded, Fits}
-use Rattle.fields.specs.Meaning.Places.{modeAt, siteAt, outputsAt, horizonAt, matchingAt, literalsFrom, monitorNumbers, roleAt, weightAt, statesAt, firstAt}
-use Rattle.fields.specs.Model.Head.{literalAt}
+use Rattle.sheet_fields.specs.Meaning.Places.{modeAt, siteAt, outputsAt, horizonAt, matchingAt, literalsFrom, monitorNumbers, roleAt, weightAt, statesAt, firstAt}
+use Rattle.sheet_fields.specs.Model.Head.{literalAt}
 use Rattle.sheet.specs.Model.Head.{headSheet}
 use Rattle.sheet.specs.Model.Monitor.{monitorAt}
 use Rattle.sheet.specs.Model.Reader.{reading}

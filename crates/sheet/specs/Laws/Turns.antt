@@ -21,9 +21,9 @@ use Rattle.sheet.specs.Meaning.Decoded.{inputsOf}
 use Rattle.sheet.specs.Model.Layout.{noMonitor, accepted, refused, withMonitor}
 use Rattle.sheet.specs.Meaning.Grounds.{verdictNumber}
 use Rattle.sheet.specs.Model.Where.{placed}
-use Rattle.fields.specs.Meaning.Places.{modeAt, siteAt, outputsAt, horizonAt, matchingAt}
-use Rattle.fields.specs.Meaning.Head.{headOk}
-use Rattle.fields.specs.Meaning.Monitor.{monitorOk}
+use Rattle.sheet_fields.specs.Meaning.Places.{modeAt, siteAt, outputsAt, horizonAt, matchingAt}
+use Rattle.sheet_fields.specs.Meaning.Head.{headOk}
+use Rattle.sheet_fields.specs.Meaning.Monitor.{monitorOk}
 use Rattle.sheet.specs.Model.Head.{headSheet, readHead}
 use Rattle.sheet.specs.Model.Monitor.{monitorAt, takeMonitor}
 use Rattle.sheet.specs.Model.Reader.{takeRecord, onFound, readRecords, firstFound, reading}

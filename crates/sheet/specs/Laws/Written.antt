@@ -13,10 +13,10 @@ use Rattle.records.specs.Meaning.Lists.{tab, cat}
 use Rattle.records.specs.Laws.Lists.{tab-eq, length-cat, getD-cat, cat-each}
 use Rattle.records.specs.Meaning.Numbers.{u16At}
 use Rattle.records.specs.Meaning.Records.{sizeAt, kindAt, bodyAt}
-use Rattle.fields.specs.Meaning.Places.{roleAt, weightAt, statesAt, firstAt}
+use Rattle.sheet_fields.specs.Meaning.Places.{roleAt, weightAt, statesAt, firstAt}
 use Rattle.sheet.specs.Meaning.Decoded.{Automaton, Decoded, letters, lettersOf, MonitorOk, encodeMonitor}
 use Rattle.sheet.specs.Model.Where.{automaton}
-use Rattle.fields.specs.Meaning.Monitor.{monitorOk}
+use Rattle.sheet_fields.specs.Meaning.Monitor.{monitorOk}
 use Rattle.sheet.specs.Model.Monitor.{monitorAt}
 use Rattle.sheet.specs.Laws.Judged.{Role, Body, monitor-test}
 use Rattle.sheet.specs.declared.layout.Sheet.{Sheet}

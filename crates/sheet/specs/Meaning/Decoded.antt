@@ -8,8 +8,8 @@ use lib.ListN.{length, getD}
 use Rattle.records.specs.Meaning.Lists.{cat}
 use Rattle.records.specs.Meaning.Records.{header}
 use Rattle.records.specs.Meaning.Limits.{maxInputs, maxOutputs, maxLines, maxHorizon, maxMonitors, maxMonitorStates, literalEnd}
-use Rattle.fields.specs.Meaning.Places.{headNumbers, monitorNumbers}
-unfoldable pub use Rattle.fields.specs.Meaning.Lines.{inputsOf, lettersOf}
+use Rattle.sheet_fields.specs.Meaning.Places.{headNumbers, monitorNumbers}
+unfoldable pub use Rattle.sheet_fields.specs.Meaning.Lines.{inputsOf, lettersOf}
 
 -- a monitor: an automaton whose states are the indices of `accept`; `rows` has its next state for each state and letter
 pub record Automaton : Type 0 where

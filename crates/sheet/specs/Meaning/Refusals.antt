@@ -8,10 +8,10 @@ use lib.Dec.{ltb, leb, eqb}
 use lib.ListN.{length}
 use Rattle.records.specs.Meaning.Records.{readAt, foundNumber, sizeAt, kindAt, bodyAt, endAt}
 use Rattle.records.specs.Meaning.Limits.{maxMonitors, horizonOk}
-use Rattle.fields.specs.Meaning.Places.{modeAt, siteAt, outputsAt, horizonAt}
-use Rattle.fields.specs.Meaning.Lines.{inputsOf}
-use Rattle.fields.specs.Meaning.Head.{headOk}
-use Rattle.fields.specs.Meaning.Monitor.{monitorOk}
+use Rattle.sheet_fields.specs.Meaning.Places.{modeAt, siteAt, outputsAt, horizonAt}
+use Rattle.sheet_fields.specs.Meaning.Lines.{inputsOf}
+use Rattle.sheet_fields.specs.Meaning.Head.{headOk}
+use Rattle.sheet_fields.specs.Meaning.Monitor.{monitorOk}
 
 -- the ground's number where its test is not passed, else what is due after it
 abbrev pub unless : Bool → ℕ → ℕ → ℕ

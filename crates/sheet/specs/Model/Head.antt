@@ -5,10 +5,10 @@ use mathlib.Core.List.{List, [], _∷_}
 use Prim.Native.Nat.{ℕ}
 use lib.ListN.{replicate}
 use Rattle.records.specs.Meaning.Limits.{maxMonitors, horizonOk}
-use Rattle.fields.specs.Meaning.Places.{modeAt, siteAt, outputsAt, horizonAt, matchingAt}
-use Rattle.fields.specs.Meaning.Lines.{inputsOf}
-use Rattle.fields.specs.Meaning.Head.{headOk}
-use Rattle.fields.specs.Model.Head.{literalAt}
+use Rattle.sheet_fields.specs.Meaning.Places.{modeAt, siteAt, outputsAt, horizonAt, matchingAt}
+use Rattle.sheet_fields.specs.Meaning.Lines.{inputsOf}
+use Rattle.sheet_fields.specs.Meaning.Head.{headOk}
+use Rattle.sheet_fields.specs.Model.Head.{literalAt}
 use Rattle.sheet.specs.Model.Layout.{noMonitor, accepted, refused}
 use Rattle.sheet.specs.declared.layout.Sheet.{Sheet}
 use Rattle.sheet.specs.declared.layout.Refusal.the-variants.{BadHead, LongHorizon}

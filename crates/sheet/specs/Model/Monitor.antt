@@ -5,8 +5,8 @@ use mathlib.Core.List.{List}
 use Prim.Native.Nat.{ℕ}
 use lib.Dec.{leb}
 use Rattle.records.specs.Meaning.Limits.{maxMonitors}
-use Rattle.fields.specs.Meaning.Places.{roleAt, weightAt, statesAt, firstAt, acceptFrom, rowsFrom}
-use Rattle.fields.specs.Meaning.Monitor.{monitorOk}
+use Rattle.sheet_fields.specs.Meaning.Places.{roleAt, weightAt, statesAt, firstAt, acceptFrom, rowsFrom}
+use Rattle.sheet_fields.specs.Meaning.Monitor.{monitorOk}
 use Rattle.sheet.specs.Model.Layout.{withMonitor, accepted, refused}
 use Rattle.sheet.specs.declared.layout.Monitor.{Monitor}
 use Rattle.sheet.specs.declared.layout.Sheet.{Sheet}

@@ -11,9 +11,9 @@ use Rattle.sheet.specs.Meaning.Decoded.{Decoded, inputLines}
 use Rattle.product.specs.Meaning.Step.{inputsOf, outputsOf}
 use Rattle.product.specs.Model.Numbered.{stateCount}
 use Rattle.rounds.specs.Model.Rounds.{maskOf}
-use Rattle.masks.specs.Meaning.SupervisorTable.{maskTable}
-use Rattle.masks.specs.Model.Rows.{keptFlag, tableRow, rowLength, tableLength}
-use Rattle.masks.specs.Laws.Rows.{row-format, length-row}
+use Rattle.supervisor_table.specs.Meaning.SupervisorTable.{maskTable}
+use Rattle.supervisor_table.specs.Model.Rows.{keptFlag, tableRow, rowLength, tableLength}
+use Rattle.supervisor_table.specs.Laws.Rows.{row-format, length-row}
 use Rattle.solve.specs.Model.Steps.{cellsOf, droppedOf}
 use Rattle.supervisor.specs.Model.Table.{supervisorTable, tableHead, tableOf}
 

@@ -24,7 +24,7 @@ use Rattle.game.specs.Meaning.Supervisor as relations
 use Rattle.game.specs.Laws.Supervisor.{permissive-supervises, permissive-greatest, maximally-permissive}
 use Rattle.rounds.specs.Model.Rounds.{isIn, maskOf}
 use Rattle.rounds.specs.Laws.Masks.{allows, mask-lt, mask-says, mask-past, mask-lost}
-use Rattle.masks.specs.Model.Rows.{keptFlag, rowLength, tableLength}
+use Rattle.supervisor_table.specs.Model.Rows.{keptFlag, rowLength, tableLength}
 use Rattle.solve.specs.Meaning.Allowed.{Kept, Lost, Allowed, AllowedAfter, MaximallyPermissive}
 use Rattle.solve.specs.Model.Steps.{cellsOf, droppedOf}
 use Rattle.supervisor.specs.Model.Table.{supervisorTable}

@@ -12,7 +12,7 @@ use Rattle.records.specs.Laws.Lists.{tab-ext, cat-ext}
 use Rattle.sheet.specs.Meaning.Decoded.{Decoded}
 use Rattle.product.specs.Meaning.Step.{inputsOf, firstTuple}
 use Rattle.product.specs.Laws.Ordered.{product-states-once}
-use Rattle.masks.specs.Meaning.SupervisorTable.{maskRow, maskTable}
+use Rattle.supervisor_table.specs.Meaning.SupervisorTable.{maskRow, maskTable}
 use Rattle.solve.specs.Meaning.Allowed.{Kept, Lost, Allowed}
 use Rattle.supervisor.specs.Promises.Supervisor.{Means}
 

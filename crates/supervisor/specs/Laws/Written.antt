@@ -24,7 +24,7 @@ use Rattle.sheet.specs.declared.layout.Sheet.{Sheet}
 use Rattle.sheet.specs.declared.layout.Refusal.the-variants as ground
 use Rattle.product.specs.Meaning.Step.{inputsOf, outputsOf}
 use Rattle.product.specs.Model.Numbered.{stateCount}
-use Rattle.masks.specs.Model.Rows.{tableRow, tableLength}
+use Rattle.supervisor_table.specs.Model.Rows.{tableRow, tableLength}
 use Rattle.supervisor.specs.Model.Table.{tableHead, tableOf, supervisorTable}
 use Rattle.solve.specs.Model.Solve.{Solution}
 use Rattle.solve.specs.Meaning.Allowed.{Accepted}

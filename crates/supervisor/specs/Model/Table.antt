@@ -8,7 +8,7 @@ use Rattle.records.specs.Meaning.Records.{header}
 use Rattle.sheet.specs.Meaning.Decoded.{Decoded, inputLines}
 use Rattle.product.specs.Meaning.Step.{inputsOf, outputsOf}
 use Rattle.product.specs.Model.Numbered.{stateCount}
-use Rattle.masks.specs.Model.Rows.{tableRow}
+use Rattle.supervisor_table.specs.Model.Rows.{tableRow}
 use Rattle.solve.specs.Model.Steps.{cellsOf, droppedOf}
 
 -- kind 19: mode, inputs, outputs and the count

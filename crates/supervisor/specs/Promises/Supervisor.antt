@@ -13,7 +13,7 @@ use Rattle.product.specs.Meaning.Step.{inputsOf, advance, firstTuple}
 use Rattle.product.specs.Meaning.States.{ProductStates}
 use Rattle.product.specs.Model.Numbered.{stateCount}
 use Rattle.game.specs.Meaning.History.{Step, reached, Permitted}
-use Rattle.masks.specs.Meaning.SupervisorTable.{maskTable}
+use Rattle.supervisor_table.specs.Meaning.SupervisorTable.{maskTable}
 use Rattle.solve.specs.Meaning.Allowed.{Kept, Lost, Allowed, Accepted, AllowedAfter, MaximallyPermissive}
 use Rattle.supervisor.specs.Model.Table.{supervisorTable}
 use Rattle.solve.specs.Meaning.Made.{madeNumber, madeLength, madeStates}

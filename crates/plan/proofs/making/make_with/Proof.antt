@@ -4,7 +4,7 @@ use Prim.Native.Nat.{_≤_}
 use native.Mathlib.Omega.{arith}
 use lib.ListN.{length}
 use Rattle.sheet.specs.declared.layout.Verdict.{Verdict}
-use Rattle.rows.specs.Laws.Entered.{count-most}
+use Rattle.guard_rows.specs.Laws.Entered.{count-most}
 use Rattle.plan.specs.Model.Table.{guardTableOf, statesOf}
 use Rattle.plan.specs.Model.Planned.{Room}
 use Rattle.plan.specs.Laws.Planned.{playable, horizon-in-bounds}

@@ -3,9 +3,9 @@ use mathlib.Core.Path.{refl}
 use Prim.Native.Nat.{_≤_}
 use native.Mathlib.Omega.{arith}
 use lib.ListN.{length, length-append}
-use Rattle.text.specs.Meaning.Listing.{refusedWord, lineEnd, labelled, refusedText}
-use Rattle.text.specs.Laws.Pieces.{put-then, fits-rest}
-use Rattle.text.specs.Laws.Lengths.{length-refused}
+use Rattle.listing_text.specs.Meaning.Listing.{refusedWord, lineEnd, labelled, refusedText}
+use Rattle.listing_text.specs.Laws.Pieces.{put-then, fits-rest}
+use Rattle.listing_text.specs.Laws.Lengths.{length-refused}
 use Rattle.report.specs.Laws.Answers.{writes-text, writes-short}
 use borrow.Author.Needs.{needs}
 use Rattle.report.proofs.Report.refused.Statement.{statement}

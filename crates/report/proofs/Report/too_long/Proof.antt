@@ -1,8 +1,8 @@
 -- `report::Report::too_long`: 9, then the line. Assumes nothing.
 use mathlib.Core.Path.{refl}
 use native.Mathlib.Omega.{arith}
-use Rattle.text.specs.Meaning.Listing.{tooLongText}
-use Rattle.text.specs.Laws.Pieces.{put-as}
+use Rattle.listing_text.specs.Meaning.Listing.{tooLongText}
+use Rattle.listing_text.specs.Laws.Pieces.{put-as}
 use Rattle.report.specs.Laws.Answers.{writes-text, writes-short}
 use borrow.Author.Needs.{needs}
 use Rattle.report.proofs.Report.too_long.Statement.{statement}

@@ -10,8 +10,8 @@ use denote.Ref.{now}
 use lib.Dec.{leb}
 use lib.ListN.{getD}
 use Rattle.records.specs.Laws.Tests.{cases, said-no, said-yes}
-use Rattle.fields.specs.Meaning.Monitor.{roleOk, bytesMost, monitorOk}
-use Rattle.fields.specs.Laws.Facts.{States, states-facts}
+use Rattle.sheet_fields.specs.Meaning.Monitor.{roleOk, bytesMost, monitorOk}
+use Rattle.sheet_fields.specs.Laws.Facts.{States, states-facts}
 use Rattle.sheet.proofs.monitor.monitor_ok.Statement.{statement}
 use Rattle.sheet.proofs.monitor.monitor_ok.Tie as tie
 

@@ -6,7 +6,7 @@ use lib.ListN.{length}
 use Rattle.records.specs.Meaning.Limits.{maxStates}
 use Rattle.sheet.specs.declared.layout.Verdict.{Verdict}
 use Rattle.product.specs.Model.Numbered.{stateCount, cellsLength}
-use Rattle.masks.specs.Model.Rows.{tableLength}
+use Rattle.supervisor_table.specs.Model.Rows.{tableLength}
 use Rattle.solve.specs.Model.Opening.{Opened, Opens}
 use Rattle.solve.specs.Laws.Solving.{inputs-low, outputs-low, few-inputs, few-outputs, layout-steps}
 use Rattle.supervisor.specs.Model.Table.{supervisorTable}

@@ -1,0 +1,76 @@
+// The board's calls over a board's 16 bytes; an answer is document 01's number. On a refusal no byte is changed.
+use crate::layout::board_in;
+use crate::layout::put_board;
+use crate::numbers::change_number;
+use crate::numbers::load_number;
+use crate::numbers::step_answer;
+use crate::numbers::step_number;
+use board::Board;
+ghost use mathlib.Core.Path.{_≡_};
+ghost use lib.ListN.{length};
+ghost use Rattle.board_bytes.specs.Meaning.Board.{boardLength};
+ghost use Rattle.board_bytes.specs.Promises.Calls.{bytesAfter, Loads, Steps, Rewinds, Unloads};
+
+pub mod layout;
+pub mod numbers;
+
+// Writes the board that a call hands back, where the call was not refused.
+fn hand_back(board: &mut [u8], number: u32, after: Board)
+    requires { ⌜ length (now board) ≡ boardLength ⌝ }
+    ensures { λ _. ⌜ now (board .exit) ≡ bytesAfter (now (board .entry)) number after ⌝ }
+{
+    if number == 0 {
+        put_board(board, after);
+    }
+}
+
+// Loads a table.
+pub fn load(board: &mut [u8], table: &[u8]) -> u32
+    requires { ⌜ length (now board) ≡ boardLength ⌝ }
+    ensures { λ r. ⌜ Loads (now (board .entry)) (now (table .entry)) r (now (board .exit)) ⌝ }
+{
+    let loading = board_in(board).load(table);
+    let after = loading.board;
+    let answer = loading.answer;
+    let number = load_number(answer);
+    hand_back(board, number, after);
+    number
+}
+
+// Answers an input: the number, and 65,536 times the output.
+pub fn step(board: &mut [u8], table: &[u8], input: u8) -> u32
+    requires { ⌜ length (now board) ≡ boardLength ⌝ }
+    ensures { λ r. ⌜ Steps (now (board .entry)) (now (table .entry)) input r (now (board .exit)) ⌝ }
+{
+    let stepping = board_in(board).step(table, input);
+    let after = stepping.board;
+    let answer = stepping.answer;
+    hand_back(board, step_number(answer), after);
+    step_answer(answer)
+}
+
+// Begins the run anew.
+pub fn rewind(board: &mut [u8]) -> u32
+    requires { ⌜ length (now board) ≡ boardLength ⌝ }
+    ensures { λ r. ⌜ Rewinds (now (board .entry)) r (now (board .exit)) ⌝ }
+{
+    let changing = board_in(board).rewind();
+    let after = changing.board;
+    let answer = changing.answer;
+    let number = change_number(answer);
+    hand_back(board, number, after);
+    number
+}
+
+// Empties the board.
+pub fn unload(board: &mut [u8]) -> u32
+    requires { ⌜ length (now board) ≡ boardLength ⌝ }
+    ensures { λ r. ⌜ Unloads (now (board .entry)) r (now (board .exit)) ⌝ }
+{
+    let changing = board_in(board).unload();
+    let after = changing.board;
+    let answer = changing.answer;
+    let number = change_number(answer);
+    hand_back(board, number, after);
+    number
+}

@@ -1,0 +1,87 @@
+-- `hundlezoqa_c::hz_make_guard`: the maker's own promise, and its answer reported. Assumes nothing.
+use borrow.Author.Needs.{needs}
+use Rattle.hundlezoqa_c.proofs.hz_make_guard.Statement.{statement}
+use Rattle.hundlezoqa_c.proofs.hz_make_guard.Tie as tie
+
+-- the places that the needs look back to
+abbrev started : tie.After-report-arg → tie.Start
+started c = c .before .before .before .before .before .before .before .before .before .before .before .before .before .before .before .before .before .before .before .before .before .before .before .before .before .before .before .before .before .before .before .before .before .before .before .before .before .before .before .before .before .before .before .before .before .before .before .before
+
+abbrev told : tie.After-slice-known24 → tie.After-report
+told c = c .before .before
+
+abbrev called : tie.After-slice-known24 → tie.After-make
+called c = told c .before .before .before .before .before .before .before .before .before .before .before .before .before .before .before .before .before .before .before .before .before .before .before .before
+
+make-requires : tie.Need-make-requires
+make-requires c κs = search needs
+
+report-requires : tie.Need-report-requires
+report-requires c κs = started c .pre
+
+same-length : tie.Need-same-length
+same-length c = called c .make .kept .1 .0
+
+same-length-2 : tie.Need-same-length-2
+same-length-2 c = called c .make .kept .1 .1 .0
+
+same-length-3 : tie.Need-same-length-3
+same-length-3 c = called c .make .kept .1 .1 .1 .0
+
+same-length-4 : tie.Need-same-length-4
+same-length-4 c = called c .make .kept .1 .1 .1 .1 .0
+
+same-length-5 : tie.Need-same-length-5
+same-length-5 c = called c .make .kept .1 .1 .1 .1 .1 .0
+
+same-length-6 : tie.Need-same-length-6
+same-length-6 c = called c .make .kept .1 .1 .1 .1 .1 .1 .0
+
+same-length-7 : tie.Need-same-length-7
+same-length-7 c = called c .make .kept .1 .1 .1 .1 .1 .1 .1 .0
+
+same-length-8 : tie.Need-same-length-8
+same-length-8 c = called c .make .kept .1 .1 .1 .1 .1 .1 .1 .1 .0
+
+same-length-9 : tie.Need-same-length-9
+same-length-9 c = called c .make .kept .1 .1 .1 .1 .1 .1 .1 .1 .1 .0
+
+same-length-10 : tie.Need-same-length-10
+same-length-10 c = called c .make .kept .1 .1 .1 .1 .1 .1 .1 .1 .1 .1 .0
+
+same-length-11 : tie.Need-same-length-11
+same-length-11 c = called c .make .kept .1 .1 .1 .1 .1 .1 .1 .1 .1 .1 .1 .0
+
+same-length-12 : tie.Need-same-length-12
+same-length-12 c = told c .report .kept .1 .0
+
+returns : tie.Need-returns
+returns c = (
+  record {
+    made = called c .make .result;
+    promised = called c .make .ensures .0;
+    number = told c .report .ensures .0;
+    figures = told c .report .ensures .1;
+  },
+  called c .make .ensures .1,
+)
+
+pub hz-make-guard-spec : {M : Type 1} → statement M
+hz-make-guard-spec =
+    tie.close
+    (tie.spec
+    make-requires
+    report-requires
+    same-length
+    same-length-2
+    same-length-3
+    same-length-4
+    same-length-5
+    same-length-6
+    same-length-7
+    same-length-8
+    same-length-9
+    same-length-10
+    same-length-11
+    same-length-12
+    returns)

@@ -1,0 +1,116 @@
+// The public calls for programs in other languages: each is one call of a crate below, and its promise is that call's.
+// A slice crosses as a pointer and a length, a board as its 16 bytes, an answer as document 01's number.
+use board_bytes::numbers::report;
+use guard::make::Guard;
+use supervisor::make::Supervisor;
+ghost use mathlib.Core.Path.{_≡_};
+ghost use Prim.Native.Nat.{_≤_};
+ghost use lib.ListN.{length};
+ghost use Rattle.records.specs.Meaning.Numbers.{zeros};
+ghost use Rattle.guard.specs.Promises.Guard.{lent};
+ghost use Rattle.board_bytes.specs.Meaning.Board.{boardLength};
+ghost use Rattle.board_bytes.specs.Promises.Calls.{Loads, Steps, Rewinds, Unloads};
+ghost use Rattle.hundlezoqa_c.specs.Promises.Library.{ReportsSupervisor, ReportsGuard};
+
+// Makes a supervisor table.
+#[no_mangle]
+pub extern "C" fn hz_make_supervisor(
+    sheet: &[u8],
+    result: &mut [u8],
+    tuples: &mut [u8],
+    cells: &mut [u16],
+    dropped: &mut [u16],
+    figures: &mut [u64],
+) -> u32
+    requires { ⌜ 2 ≤ length (now figures) ⌝ }
+    ensures made { λ r. ⌜ ReportsSupervisor (now (sheet .entry)) (now (result .entry)) (length (now (tuples .entry))) (length (now (cells .entry))) (length (now (dropped .entry))) (now (result .exit)) r (now (figures .entry)) (now (figures .exit)) ⌝ }
+    ensures tuples { λ _. ⌜ now (tuples .exit) ≡ zeros (length (now (tuples .entry))) ⌝ }
+    ensures cells { λ _. ⌜ now (cells .exit) ≡ zeros (length (now (cells .entry))) ⌝ }
+    ensures dropped { λ _. ⌜ now (dropped .exit) ≡ zeros (length (now (dropped .entry))) ⌝ }
+{
+    let made = Supervisor::make(sheet, result, tuples, cells, dropped);
+    report(made, figures)
+}
+
+// Makes a guard table.
+#[no_mangle]
+pub extern "C" fn hz_make_guard(
+    sheet: &[u8],
+    result: &mut [u8],
+    tuples: &mut [u8],
+    cells: &mut [u16],
+    dropped: &mut [u16],
+    gains: &mut [u16],
+    bonuses: &mut [u16],
+    values: &mut [u64],
+    next: &mut [u64],
+    choices: &mut [u8],
+    order: &mut [u16],
+    numbers: &mut [u16],
+    figures: &mut [u64],
+) -> u32
+    requires { ⌜ 2 ≤ length (now figures) ⌝ }
+    ensures made { λ r. ⌜ ReportsGuard (now (sheet .entry)) (now (result .entry)) (lent (length (now (tuples .entry))) (length (now (cells .entry))) (length (now (dropped .entry))) (length (now (gains .entry))) (length (now (bonuses .entry))) (length (now (values .entry))) (length (now (next .entry))) (length (now (choices .entry))) (length (now (order .entry))) (length (now (numbers .entry)))) (now (result .exit)) r (now (figures .entry)) (now (figures .exit)) ⌝ }
+    ensures tuples { λ _. ⌜ now (tuples .exit) ≡ zeros (length (now (tuples .entry))) ⌝ }
+    ensures cells { λ _. ⌜ now (cells .exit) ≡ zeros (length (now (cells .entry))) ⌝ }
+    ensures dropped { λ _. ⌜ now (dropped .exit) ≡ zeros (length (now (dropped .entry))) ⌝ }
+    ensures gains { λ _. ⌜ now (gains .exit) ≡ zeros (length (now (gains .entry))) ⌝ }
+    ensures bonuses { λ _. ⌜ now (bonuses .exit) ≡ zeros (length (now (bonuses .entry))) ⌝ }
+    ensures values { λ _. ⌜ now (values .exit) ≡ zeros (length (now (values .entry))) ⌝ }
+    ensures next { λ _. ⌜ now (next .exit) ≡ zeros (length (now (next .entry))) ⌝ }
+    ensures choices { λ _. ⌜ now (choices .exit) ≡ zeros (length (now (choices .entry))) ⌝ }
+    ensures order { λ _. ⌜ now (order .exit) ≡ zeros (length (now (order .entry))) ⌝ }
+    ensures numbers { λ _. ⌜ now (numbers .exit) ≡ zeros (length (now (numbers .entry))) ⌝ }
+{
+    let made = Guard::make(
+        sheet,
+        result,
+        tuples,
+        cells,
+        dropped,
+        gains,
+        bonuses,
+        values,
+        next,
+        choices,
+        order,
+        numbers,
+    );
+    report(made, figures)
+}
+
+// Loads a table.
+#[no_mangle]
+pub extern "C" fn hz_load(board: &mut [u8], table: &[u8]) -> u32
+    requires { ⌜ length (now board) ≡ boardLength ⌝ }
+    ensures { λ r. ⌜ Loads (now (board .entry)) (now (table .entry)) r (now (board .exit)) ⌝ }
+{
+    board_bytes::load(board, table)
+}
+
+// Answers an input: the number, and 65,536 times the output.
+#[no_mangle]
+pub extern "C" fn hz_step(board: &mut [u8], table: &[u8], input: u8) -> u32
+    requires { ⌜ length (now board) ≡ boardLength ⌝ }
+    ensures { λ r. ⌜ Steps (now (board .entry)) (now (table .entry)) input r (now (board .exit)) ⌝ }
+{
+    board_bytes::step(board, table, input)
+}
+
+// Begins the run anew.
+#[no_mangle]
+pub extern "C" fn hz_rewind(board: &mut [u8]) -> u32
+    requires { ⌜ length (now board) ≡ boardLength ⌝ }
+    ensures { λ r. ⌜ Rewinds (now (board .entry)) r (now (board .exit)) ⌝ }
+{
+    board_bytes::rewind(board)
+}
+
+// Empties the board.
+#[no_mangle]
+pub extern "C" fn hz_unload(board: &mut [u8]) -> u32
+    requires { ⌜ length (now board) ≡ boardLength ⌝ }
+    ensures { λ r. ⌜ Unloads (now (board .entry)) r (now (board .exit)) ⌝ }
+{
+    board_bytes::unload(board)
+}

@@ -1,0 +1,71 @@
+-- `supervisor_table::put_row`: the header, the kept byte and the masks, one after the other. Assumes nothing.
+use mathlib.Core.Path.{ap, _∙_}
+use Prim.Native.Nat.{_+_}
+use native.Mathlib.Omega.{arith}
+use lib.ListN.{length, length-set}
+use lib.Seq.{length-sets}
+use Rattle.records.specs.Meaning.Lists.{tab}
+use Rattle.rounds.specs.Model.Rounds.{maskOf}
+use Rattle.supervisor_table.specs.Model.Rows.{keptFlag, tableRow}
+use Rattle.supervisor_table.proofs.Stores.{whole-record}
+use borrow.Author.Needs.{needs}
+use Rattle.supervisor_table.proofs.put_row.Statement.{statement}
+use Rattle.supervisor_table.proofs.put_row.Tie as tie
+
+-- the places that the needs look back to
+abbrev start : tie.After-slice-known2 → tie.Start
+start c = c .before .before .before .before .before .before .before
+
+abbrev marked : tie.After-slice-known3 → tie.After-kept-flag
+marked c = c .before .before .before .before
+
+abbrev entry : tie.After-slice-known3 → tie.Start
+entry c = start (marked c .before)
+
+add-put-header : tie.Need-add-put-header
+add-put-header c = search needs
+
+cast-put-header : tie.Need-cast-put-header
+cast-put-header c = search needs
+
+put-header-requires : tie.Need-put-header-requires
+put-header-requires c κs = search needs
+
+kept-flag-requires : tie.Need-kept-flag-requires
+kept-flag-requires c κs = search needs
+
+add-result : tie.Need-add-result
+add-result c = search needs
+
+slice-write-result : tie.Need-slice-write-result
+slice-write-result c = search needs
+
+add-put-masks : tie.Need-add-put-masks
+add-put-masks c = search needs
+
+put-masks-requires : tie.Need-put-masks-requires
+put-masks-requires c κs = (start (c .before .before) .pre .0, simp length-set (search needs))
+
+returns : tie.Need-returns
+unfolding tableRow
+returns c = let a = entry c .args in
+    whole-record (a .result .now) (a .at) (1 + a .inputs) 18 (keptFlag (a .dropped .now) (a .k)) (tab (a .inputs) (maskOf (a .cells .now) (a .dropped .now) (a .inputs) (a .outputs) (a .k)))
+    (marked c .before .before .before .put-header .ensures) (marked c .kept-flag .ensures) (c .before .before .put-masks .ensures)
+
+same-length : tie.Need-same-length
+same-length c = let a = entry c .args in ap length (returns c) ∙ length-sets (a .result .now) (a .at) (tableRow (a .cells .now) (a .dropped .now) (a .inputs) (a .outputs) (a .k))
+
+pub put-row-spec : {M : Type 1} → statement M
+put-row-spec =
+    tie.close
+    (tie.spec
+    add-put-header
+    cast-put-header
+    put-header-requires
+    kept-flag-requires
+    add-result
+    slice-write-result
+    add-put-masks
+    put-masks-requires
+    same-length
+    returns)
