@@ -8,10 +8,10 @@ use Rattle.records.specs.Meaning.Numbers.{u16At}
 use Rattle.records.specs.Meaning.Limits.{linesOk, horizonOk}
 use Rattle.guard_table.specs.Meaning.GuardTable.{rowLength, tableLength, rowAt, entryAt, headerIs, outputIn, nextIn}
 use Rattle.board.specs.Meaning.Board.{countsOk, live, emptyBoard, runAt}
-use Rattle.guard_table.specs.Meaning.Loadable.{sizeOk, fieldsOk, headOk, entryOk, entriesOk, rowOk, rowsOk, loadable}
+use Rattle.guard_table.specs.Meaning.Loadable.{sizeOk, fieldsOk, tableHeadOk, entryOk, entriesOk, rowOk, rowsOk, loadable}
 use Rattle.board.specs.Meaning.Load.{boardOf, loadOn, loadNumber}
 use Rattle.game.specs.Meaning.Proposal.{proposal, differs, deviates}
-use Rattle.board.specs.Meaning.Step.{entryFits, moved, lookedUp, stepOn, stepNumber}
+use Rattle.board.specs.Meaning.BoardStep.{entryFits, boardMoved, lookedUp, stepOn, stepNumber}
 
 -- one state, always off
 abbrev off : List ℕ
@@ -35,8 +35,8 @@ pub record Examples : Type 0 where
 
 pub examples : Examples
 unfolding all u16At linesOk horizonOk rowLength tableLength entryAt headerIs outputIn nextIn rowAt countsOk live emptyBoard runAt
-    sizeOk fieldsOk headOk entryOk entriesOk rowOk rowsOk loadable boardOf loadOn
-    proposal differs deviates entryFits moved lookedUp stepOn
+    sizeOk fieldsOk tableHeadOk entryOk entriesOk rowOk rowsOk loadable boardOf loadOn
+    proposal differs deviates entryFits boardMoved lookedUp stepOn
 examples =
     record {
       loads = refl;

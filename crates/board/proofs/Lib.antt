@@ -1,3 +1,4 @@
 -- Laws that belong to no one function.
 pub mod Promises
 pub mod Examples
+pub mod Counting

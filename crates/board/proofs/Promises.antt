@@ -11,10 +11,10 @@ use Rattle.board.specs.Meaning.Board.{live, emptyBoard, rewindOn, unload
 use Rattle.guard_table.specs.Meaning.GuardTable.{outputIn}
 use Rattle.guard_table.specs.Meaning.Loadable.{loadable}
 use Rattle.board.specs.Meaning.Load.{loadOn, loadNumber, loadRefusal}
-use Rattle.board.specs.Meaning.Step.{entryFits, moved, lookedUp, stepOn, stepNumber, stepOutput, stepRefusal, stepGiven}
+use Rattle.board.specs.Meaning.BoardStep.{entryFits, boardMoved, lookedUp, stepOn, stepNumber, stepOutput, stepRefusal, stepGiven}
 use Rattle.game.specs.Meaning.Book.{load, step, rewind, unload}
 use Rattle.board.specs.Laws.Calls.{empty-board}
-use Rattle.board.specs.Laws.Counting.{counted, keeps-count}
+use Rattle.board.proofs.Counting.{counted, keeps-count}
 use Rattle.board.specs.Promises.Board.{EmptyPromise, LoadPromise, StepPromise, RewindPromise, UnloadPromise}
 use Rattle.board.specs.declared.Board.{Board}
 use Rattle.board.specs.declared.answers.Loading.{Loading}
@@ -50,7 +50,7 @@ by-tests P b t i f g h k =
     (λ p. by-test (leb maxSteps (b .steps)) (g p) (λ q. by-test (ltb i (2 ^ b .inputs)) (λ r. k p q r (entryFits b t i) refl) (h p q))) f
 
 step-number : (b : Board) (t : List ℕ) (i : ℕ) → stepNumber (stepOn b t i .answer) ≡ stepRefusal b t i
-unfolding stepOn lookedUp moved stepRefusal
+unfolding stepOn lookedUp boardMoved stepRefusal
 step-number b t i =
     by-tests _ b t i (λ p. simp p) (λ p q. simp (p, q)) (λ p q r. simp (p, q, r)) (λ p q r f s. simp (p, q, r) (fits f s))
   where
@@ -59,7 +59,7 @@ step-number b t i =
     fits false s = simp s
 
 step-output : (b : Board) (t : List ℕ) (i : ℕ) → stepOutput (stepOn b t i .answer) ≡ stepGiven b t i
-unfolding stepOn lookedUp moved stepRefusal stepGiven
+unfolding stepOn lookedUp boardMoved stepRefusal stepGiven
 step-output b t i =
     by-tests _ b t i (λ p. simp p) (λ p q. simp (p, q)) (λ p q r. simp (p, q, r)) (λ p q r f s. simp (p, q, r) (fits f s))
   where

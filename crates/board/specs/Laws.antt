@@ -1,5 +1,4 @@
 -- Theorems that other crates and the sources cite.
 pub mod Calls
-pub mod Counting
-pub mod Facts
-pub mod Guard
+pub mod LiveFacts
+pub mod BoardOnTable

@@ -1,6 +1,6 @@
 -- What a reader must believe.
 pub mod Board
 pub mod Load
-pub mod Step
+pub mod BoardStep
 pub mod Calls
-pub mod History
+pub mod Deviations

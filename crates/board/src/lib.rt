@@ -23,7 +23,7 @@ ghost use Rattle.guard_table.specs.Meaning.GuardTable.{headLength};
 ghost use Rattle.board.specs.Meaning.Board.{countsOk, live, runAt};
 ghost use Rattle.board.specs.Meaning.Load.{boardOf};
 ghost use Rattle.game.specs.Meaning.Proposal.{deviates};
-ghost use Rattle.board.specs.Meaning.Step.{moved, lookedUp};
+ghost use Rattle.board.specs.Meaning.BoardStep.{boardMoved, lookedUp};
 ghost use Rattle.board.specs.Promises.Board.{EmptyPromise, LoadPromise, StepPromise, RewindPromise, UnloadPromise};
 
 pub mod answers;
@@ -183,7 +183,7 @@ impl Board {
     // The step of a live board to a next state, with its output.
     fn moved(self, input: u8, output: u8, next: u16) -> Stepping
         requires { ⌜ live self ≡ true ⌝ }
-        ensures { λ r. ⌜ r ≡ moved self input output next ⌝ }
+        ensures { λ r. ⌜ r ≡ boardMoved self input output next ⌝ }
     {
         let mut deviations = self.deviations;
         if deviates(self.mode, self.inputs, self.outputs, input, output) {

@@ -7,14 +7,14 @@ use Prim.Native.Nat.{ℕ}
 use borrow.Author.Tests.{eq-eqb, ne-eqb}
 use Rattle.board.specs.Meaning.Board.{changeNumber}
 use Rattle.board.specs.Meaning.Load.{loadNumber}
-use Rattle.board.specs.Meaning.Step.{stepNumber}
+use Rattle.board.specs.Meaning.BoardStep.{stepNumber}
 use Rattle.board.specs.Promises.Board.{LoadPromise, StepPromise}
 use Rattle.board.specs.declared.Board.{Board}
 use Rattle.board.specs.declared.answers.Loading.{Loading}
 use Rattle.board.specs.declared.answers.Stepping.{Stepping}
 use Rattle.board.specs.declared.answers.Changing.{Changing}
-use Rattle.board_bytes.specs.Meaning.Board.{boardIn, boardBytes}
-use Rattle.board_bytes.specs.Promises.Calls.{bytesAfter, stepAnswer, Loads, Steps, Changes}
+use Rattle.board_bytes.specs.Meaning.BoardBytes.{boardIn, boardBytes}
+use Rattle.board_bytes.specs.Promises.ByteCalls.{bytesAfter, stepAnswer, LoadCall, StepCall, Changes}
 
 -- the two ways of a test on the number
 pub written : (before : List ℕ) (n : ℕ) (b : Board) (after : List ℕ) → n ≡ 0 → after ≡ boardBytes b → after ≡ bytesAfter before n b
@@ -27,7 +27,7 @@ untouched before n b e = rw (ne-eqb n 0 e)
 
 -- the promises: b is the board that was read, n the number that the code worked out
 pub loads : (before t after : List ℕ) (b : Board) (x : Loading) (n : ℕ) → b ≡ boardIn before → LoadPromise b t x → n ≡ loadNumber (x .answer)
-    → after ≡ bytesAfter before n (x .board) → Loads before t n after
+    → after ≡ bytesAfter before n (x .board) → LoadCall before t n after
 loads before t after b x n e p q h =
     record {
       loading = x;
@@ -37,7 +37,7 @@ loads before t after b x n e p q h =
     }
 
 pub steps : (before t after : List ℕ) (input : ℕ) (b : Board) (x : Stepping) (n r : ℕ) → b ≡ boardIn before → StepPromise b t input x
-    → n ≡ stepNumber (x .answer) → r ≡ stepAnswer (x .answer) → after ≡ bytesAfter before n (x .board) → Steps before t input r after
+    → n ≡ stepNumber (x .answer) → r ≡ stepAnswer (x .answer) → after ≡ bytesAfter before n (x .board) → StepCall before t input r after
 steps before t after input b x n r e p q a h =
     record {
       stepping = x;

@@ -8,7 +8,7 @@ ghost use mathlib.Core.List.{[], _∷_};
 ghost use Prim.Native.Nat.{_+_, _≤_};
 ghost use lib.ListN.{length};
 ghost use lib.Seq.{sets};
-ghost use Rattle.board_bytes.specs.Meaning.Board.{u32At, u32Bytes, boardLength, boardIn, boardBytes};
+ghost use Rattle.board_bytes.specs.Meaning.BoardBytes.{u32At, u32Bytes, boardLength, boardIn, boardBytes};
 
 // The four-byte number at an index.
 pub fn u32_at(s: &[u8], at: usize) -> u32

@@ -8,8 +8,8 @@ use crate::numbers::step_number;
 use board::Board;
 ghost use mathlib.Core.Path.{_≡_};
 ghost use lib.ListN.{length};
-ghost use Rattle.board_bytes.specs.Meaning.Board.{boardLength};
-ghost use Rattle.board_bytes.specs.Promises.Calls.{bytesAfter, Loads, Steps, Rewinds, Unloads};
+ghost use Rattle.board_bytes.specs.Meaning.BoardBytes.{boardLength};
+ghost use Rattle.board_bytes.specs.Promises.ByteCalls.{bytesAfter, LoadCall, StepCall, RewindCall, UnloadCall};
 
 pub mod layout;
 pub mod numbers;
@@ -27,7 +27,7 @@ fn hand_back(board: &mut [u8], number: u32, after: Board)
 // Loads a table.
 pub fn load(board: &mut [u8], table: &[u8]) -> u32
     requires { ⌜ length (now board) ≡ boardLength ⌝ }
-    ensures { λ r. ⌜ Loads (now (board .entry)) (now (table .entry)) r (now (board .exit)) ⌝ }
+    ensures { λ r. ⌜ LoadCall (now (board .entry)) (now (table .entry)) r (now (board .exit)) ⌝ }
 {
     let loading = board_in(board).load(table);
     let after = loading.board;
@@ -40,7 +40,7 @@ pub fn load(board: &mut [u8], table: &[u8]) -> u32
 // Answers an input: the number, and 65,536 times the output.
 pub fn step(board: &mut [u8], table: &[u8], input: u8) -> u32
     requires { ⌜ length (now board) ≡ boardLength ⌝ }
-    ensures { λ r. ⌜ Steps (now (board .entry)) (now (table .entry)) input r (now (board .exit)) ⌝ }
+    ensures { λ r. ⌜ StepCall (now (board .entry)) (now (table .entry)) input r (now (board .exit)) ⌝ }
 {
     let stepping = board_in(board).step(table, input);
     let after = stepping.board;
@@ -52,7 +52,7 @@ pub fn step(board: &mut [u8], table: &[u8], input: u8) -> u32
 // Begins the run anew.
 pub fn rewind(board: &mut [u8]) -> u32
     requires { ⌜ length (now board) ≡ boardLength ⌝ }
-    ensures { λ r. ⌜ Rewinds (now (board .entry)) r (now (board .exit)) ⌝ }
+    ensures { λ r. ⌜ RewindCall (now (board .entry)) r (now (board .exit)) ⌝ }
 {
     let changing = board_in(board).rewind();
     let after = changing.board;
@@ -65,7 +65,7 @@ pub fn rewind(board: &mut [u8]) -> u32
 // Empties the board.
 pub fn unload(board: &mut [u8]) -> u32
     requires { ⌜ length (now board) ≡ boardLength ⌝ }
-    ensures { λ r. ⌜ Unloads (now (board .entry)) r (now (board .exit)) ⌝ }
+    ensures { λ r. ⌜ UnloadCall (now (board .entry)) r (now (board .exit)) ⌝ }
 {
     let changing = board_in(board).unload();
     let after = changing.board;

@@ -9,9 +9,9 @@ ghost use lib.ListN.{length};
 ghost use lib.Seq.{sets};
 ghost use Rattle.board.specs.Meaning.Board.{changeNumber};
 ghost use Rattle.board.specs.Meaning.Load.{loadNumber};
-ghost use Rattle.board.specs.Meaning.Step.{stepNumber};
+ghost use Rattle.board.specs.Meaning.BoardStep.{stepNumber};
 ghost use Rattle.solve.specs.Meaning.Made.{madeNumber, madeLength, madeStates};
-ghost use Rattle.board_bytes.specs.Promises.Calls.{stepAnswer, figuresOf};
+ghost use Rattle.board_bytes.specs.Promises.ByteCalls.{stepAnswer, figuresOf};
 
 pub fn load_number(answer: Load) -> u32
     ensures { λ r. ⌜ r ≡ loadNumber answer ⌝ }

@@ -1,2 +1,2 @@
 -- What a reader must believe.
-pub mod Guard
+pub mod Faithful

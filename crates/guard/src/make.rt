@@ -7,7 +7,7 @@ use solve::made::Made;
 ghost use mathlib.Core.Path.{_≡_};
 ghost use lib.ListN.{length};
 ghost use Rattle.records.specs.Meaning.Numbers.{zeros};
-ghost use Rattle.guard.specs.Promises.Guard.{lent, workOk, MakesGuard};
+ghost use Rattle.guard.specs.Promises.GuardMaker.{lent, workOk, MakesGuard};
 
 // The maker: the work memory that it needs.
 pub struct Guard {

@@ -11,8 +11,8 @@ use Rattle.records.specs.Meaning.Records.{header}
 use Rattle.guard_table.specs.Meaning.GuardTable.{rowKind, headLength, entryWidth, rowSize, rowAt, entryAt, guardHead, guardEntry, guardRow, guardTable}
 use Rattle.guard_table.specs.Laws.GuardTable.{entries-begin, entry-next-to}
 use Rattle.values.specs.Model.Values.{Game}
-use Rattle.values.specs.Model.Guard.{chosen}
-use Rattle.guard_rows.specs.Model.Entered.{numbered, rowBy, tableBy}
+use Rattle.values.specs.Model.GuardStates.{chosen}
+use Rattle.guard_rows.specs.Model.Entered.{numbered, guardRowBy, tableBy}
 
 -- an entry, after those before it
 pub entry-stored : (before : List ℕ) (lines place i a : ℕ) {at : ℕ} → at ≡ entryAt lines place i → {b c : ℕ} → b ≡ c → {after : List ℕ}
@@ -21,35 +21,35 @@ entry-stored before lines place i a e f g =
     g ∙ ap₂ (λ (n x : ℕ). sets before n (guardEntry a x)) (e ∙ entry-next-to lines place i) f
 
 -- a row: its header, then its entries
-pub row-stored : (before : List ℕ) (lines place : ℕ) (out next : ℕ → ℕ) {inputs : ℕ} → inputs ≡ 2 ^ lines → {head after : List ℕ}
+pub row-stored : (before : List ℕ) (lines place : ℕ) (out next : ℕ → ℕ) {ins : ℕ} → ins ≡ 2 ^ lines → {head after : List ℕ}
     → head ≡ sets before (rowAt lines place) (header (rowSize lines) rowKind)
-    → after ≡ sets head (entryAt lines place 0) (cat inputs (λ i. guardEntry (out i) (next i)))
+    → after ≡ sets head (entryAt lines place 0) (cat ins (λ i. guardEntry (out i) (next i)))
     → after ≡ sets before (rowAt lines place) (guardRow lines out next)
 unfolding guardRow
-row-stored before lines place out next {inputs} e {head} {after} f g =
+row-stored before lines place out next {ins} e {head} {after} f g =
     let entries : ℕ → List ℕ = λ n. cat n (λ i. guardEntry (out i) (next i)) in
     let start = header (rowSize lines) rowKind in
     g
-    ∙ ap₂ (λ (l : List ℕ) (n : ℕ). sets l n (entries inputs)) f (entries-begin lines place)
-    ∙ sets-append before (rowAt lines place) start (entries inputs)
+    ∙ ap₂ (λ (l : List ℕ) (n : ℕ). sets l n (entries ins)) f (entries-begin lines place)
+    ∙ sets-append before (rowAt lines place) start (entries ins)
     ∙ ap (λ (n : ℕ). sets before (rowAt lines place) (start ++ entries n)) e
 
 -- head and rows written one after the other are the table
-table-written : (before : List ℕ) (mode inputs outputs horizon count : ℕ) (out next : ℕ → ℕ → ℕ)
-    → sets (sets before 0 (guardHead mode inputs outputs horizon count)) headLength
-    (cat count (λ k. guardRow inputs (out k) (next k)))
-    ≡ sets before 0 (guardTable mode inputs outputs horizon count out next)
+table-written : (before : List ℕ) (mode ins outs horizon count : ℕ) (out next : ℕ → ℕ → ℕ)
+    → sets (sets before 0 (guardHead mode ins outs horizon count)) headLength
+    (cat count (λ k. guardRow ins (out k) (next k)))
+    ≡ sets before 0 (guardTable mode ins outs horizon count out next)
 unfolding guardTable
-table-written before mode inputs outputs horizon count out next =
-    sets-append before 0 (guardHead mode inputs outputs horizon count) (cat count (λ k. guardRow inputs (out k) (next k)))
+table-written before mode ins outs horizon count out next =
+    sets-append before 0 (guardHead mode ins outs horizon count) (cat count (λ k. guardRow ins (out k) (next k)))
 
 -- a table: its head, then its rows
-pub table-stored : (before : List ℕ) (mode lines outputs horizon count : ℕ) (g : Game) (choices order numbers : List ℕ) {head after : List ℕ}
-    → head ≡ sets before 0 (guardHead mode lines outputs horizon count)
-    → after ≡ sets head headLength (cat count (λ j. rowBy lines g choices numbers (getD order j 0)))
-    → after ≡ sets before 0 (tableBy mode lines outputs horizon count g choices order numbers)
-table-stored before mode lines outputs horizon count g choices order numbers {head} {after} e f =
+pub table-stored : (before : List ℕ) (mode lines outs horizon count : ℕ) (g : Game) (choices order numbers : List ℕ) {head after : List ℕ}
+    → head ≡ sets before 0 (guardHead mode lines outs horizon count)
+    → after ≡ sets head headLength (cat count (λ j. guardRowBy lines g choices numbers (getD order j 0)))
+    → after ≡ sets before 0 (tableBy mode lines outs horizon count g choices order numbers)
+table-stored before mode lines outs horizon count g choices order numbers {head} {after} e f =
     f
-    ∙ ap (λ (l : List ℕ). sets l headLength (cat count (λ j. rowBy lines g choices numbers (getD order j 0)))) e
-    ∙ table-written before mode lines outputs horizon count (λ j. chosen g choices (getD order j 0))
+    ∙ ap (λ (l : List ℕ). sets l headLength (cat count (λ j. guardRowBy lines g choices numbers (getD order j 0)))) e
+    ∙ table-written before mode lines outs horizon count (λ j. chosen g choices (getD order j 0))
     (λ j. numbered g choices numbers (getD order j 0))

@@ -15,8 +15,8 @@ ghost use lib.Seq.{sets};
 ghost use Rattle.records.specs.Meaning.Lists.{cat};
 ghost use Rattle.guard_table.specs.Meaning.GuardTable.{headLength, tableLength, rowAt, entryAt};
 ghost use Rattle.guard_table.specs.Model.Inside.{RowInside};
-ghost use Rattle.values.specs.Model.Numbered.{stepsOf};
-ghost use Rattle.guard_rows.specs.Model.Entered.{entryBy, rowBy, tableBy, Entered, Tabled};
+ghost use Rattle.values.specs.Model.GuardNumbering.{stepsOf};
+ghost use Rattle.guard_rows.specs.Model.Entered.{entryBy, guardRowBy, tableBy, Entered, Tabled};
 
 // The entries of product state k in the row of guard state `place`, one for each input: the chosen output, and the guard state
 // after it.
@@ -25,22 +25,22 @@ pub fn put_entries(
     place: usize,
     cells: &[u16],
     lines: u8,
-    inputs: usize,
-    outputs: usize,
+    ins: usize,
+    outs: usize,
     n: usize,
     choices: &[u8],
     numbers: &[u16],
     k: usize,
 )
-    requires { ⌜ Entered (stepsOf (now cells) inputs outputs) (now choices) (now numbers) n k ⌝ }
-    requires { ⌜ (inputs ≡ 2 ^ lines) × RowInside (now result) lines place ⌝ }
-    ensures { λ _. ⌜ now (result .exit) ≡ sets (now (result .entry)) (entryAt lines place 0) (cat inputs (entryBy (stepsOf (now (cells .entry)) inputs outputs) (now (choices .entry)) (now (numbers .entry)) k)) ⌝ }
+    requires { ⌜ Entered (stepsOf (now cells) ins outs) (now choices) (now numbers) n k ⌝ }
+    requires { ⌜ (ins ≡ 2 ^ lines) × RowInside (now result) lines place ⌝ }
+    ensures { λ _. ⌜ now (result .exit) ≡ sets (now (result .entry)) (entryAt lines place 0) (cat ins (entryBy (stepsOf (now (cells .entry)) ins outs) (now (choices .entry)) (now (numbers .entry)) k)) ⌝ }
 {
     let layout = Layout { inputs: lines };
     let mut i: usize = 0;
-    while i < inputs {
-        let to = follow(cells, inputs, outputs, n, choices, k, i);
-        let output = choices[k * inputs + i];
+    while i < ins {
+        let to = follow(cells, ins, outs, n, choices, k, i);
+        let output = choices[k * ins + i];
         let next = numbers[to] - 1;
         let at = layout.entry_at(place, i);
         put_entry(result, at, Entry { output, next });
@@ -54,16 +54,16 @@ pub fn put_row(
     place: usize,
     cells: &[u16],
     lines: u8,
-    inputs: usize,
-    outputs: usize,
+    ins: usize,
+    outs: usize,
     n: usize,
     choices: &[u8],
     numbers: &[u16],
     k: usize,
 )
-    requires { ⌜ Entered (stepsOf (now cells) inputs outputs) (now choices) (now numbers) n k ⌝ }
-    requires { ⌜ (inputs ≡ 2 ^ lines) × RowInside (now result) lines place ⌝ }
-    ensures { λ _. ⌜ now (result .exit) ≡ sets (now (result .entry)) (rowAt lines place) (rowBy lines (stepsOf (now (cells .entry)) inputs outputs) (now (choices .entry)) (now (numbers .entry)) k) ⌝ }
+    requires { ⌜ Entered (stepsOf (now cells) ins outs) (now choices) (now numbers) n k ⌝ }
+    requires { ⌜ (ins ≡ 2 ^ lines) × RowInside (now result) lines place ⌝ }
+    ensures { λ _. ⌜ now (result .exit) ≡ sets (now (result .entry)) (rowAt lines place) (guardRowBy lines (stepsOf (now (cells .entry)) ins outs) (now (choices .entry)) (now (numbers .entry)) k) ⌝ }
 {
     put_row_header(result, lines, place);
     put_entries(
@@ -71,8 +71,8 @@ pub fn put_row(
         place,
         cells,
         lines,
-        inputs,
-        outputs,
+        ins,
+        outs,
         n,
         choices,
         numbers,
@@ -85,33 +85,22 @@ pub fn put_rows(
     result: &mut [u8],
     cells: &[u16],
     lines: u8,
-    inputs: usize,
-    outputs: usize,
+    ins: usize,
+    outs: usize,
     n: usize,
     choices: &[u8],
     order: &[u16],
     numbers: &[u16],
     count: usize,
 )
-    requires { ⌜ Tabled (stepsOf (now cells) inputs outputs) (now choices) (now order) (now numbers) n count ⌝ }
-    requires { ⌜ (inputs ≡ 2 ^ lines) × ((lines ≤ 4) × (tableLength lines count ≤ length (now result))) ⌝ }
-    ensures { λ _. ⌜ now (result .exit) ≡ sets (now (result .entry)) headLength (cat count (λ j. rowBy lines (stepsOf (now (cells .entry)) inputs outputs) (now (choices .entry)) (now (numbers .entry)) (getD (now (order .entry)) j 0))) ⌝ }
+    requires { ⌜ Tabled (stepsOf (now cells) ins outs) (now choices) (now order) (now numbers) n count ⌝ }
+    requires { ⌜ (ins ≡ 2 ^ lines) × ((lines ≤ 4) × (tableLength lines count ≤ length (now result))) ⌝ }
+    ensures { λ _. ⌜ now (result .exit) ≡ sets (now (result .entry)) headLength (cat count (λ j. guardRowBy lines (stepsOf (now (cells .entry)) ins outs) (now (choices .entry)) (now (numbers .entry)) (getD (now (order .entry)) j 0))) ⌝ }
 {
     let mut j: usize = 0;
     while j < count {
         let k = order[j] as usize;
-        put_row(
-            result,
-            j,
-            cells,
-            lines,
-            inputs,
-            outputs,
-            n,
-            choices,
-            numbers,
-            k,
-        );
+        put_row(result, j, cells, lines, ins, outs, n, choices, numbers, k);
         j += 1;
     }
 }
@@ -121,8 +110,8 @@ pub fn write(
     result: &mut [u8],
     sheet: Sheet,
     horizon: u8,
-    inputs: usize,
-    outputs: usize,
+    ins: usize,
+    outs: usize,
     n: usize,
     cells: &[u16],
     choices: &[u8],
@@ -130,9 +119,9 @@ pub fn write(
     numbers: &[u16],
     count: usize,
 )
-    requires { ⌜ Tabled (stepsOf (now cells) inputs outputs) (now choices) (now order) (now numbers) n count ⌝ }
-    requires { ⌜ (inputs ≡ 2 ^ sheet .inputs) × ((sheet .inputs ≤ 4) × (tableLength (sheet .inputs) count ≤ length (now result))) ⌝ }
-    ensures { λ _. ⌜ now (result .exit) ≡ sets (now (result .entry)) 0 (tableBy (sheet .mode) (sheet .inputs) (sheet .outputs) horizon count (stepsOf (now (cells .entry)) inputs outputs) (now (choices .entry)) (now (order .entry)) (now (numbers .entry))) ⌝ }
+    requires { ⌜ Tabled (stepsOf (now cells) ins outs) (now choices) (now order) (now numbers) n count ⌝ }
+    requires { ⌜ (ins ≡ 2 ^ sheet .inputs) × ((sheet .inputs ≤ 4) × (tableLength (sheet .inputs) count ≤ length (now result))) ⌝ }
+    ensures { λ _. ⌜ now (result .exit) ≡ sets (now (result .entry)) 0 (tableBy (sheet .mode) (sheet .inputs) (sheet .outputs) horizon count (stepsOf (now (cells .entry)) ins outs) (now (choices .entry)) (now (order .entry)) (now (numbers .entry))) ⌝ }
 {
     put_head(
         result,
@@ -146,8 +135,8 @@ pub fn write(
         result,
         cells,
         sheet.inputs,
-        inputs,
-        outputs,
+        ins,
+        outs,
         n,
         choices,
         order,

@@ -1,4 +1,4 @@
 -- Theorems that other crates and the sources cite.
-pub mod Facts
-pub mod Guard
+pub mod LoadableFacts
+pub mod MadeLoadable
 pub mod GuardTable

@@ -11,7 +11,7 @@ use records::numbers::u16_at;
 ghost use mathlib.Core.Path.{_≡_};
 ghost use Prim.Native.Nat.{_<_, _≤_};
 ghost use Rattle.records.specs.Meaning.Limits.{maxInputs, maxOutputs};
-ghost use Rattle.guard_table.specs.Meaning.Loadable.{sizeOk, fieldsOk, headOk, entriesOk, rowOk, rowsOk, loadable};
+ghost use Rattle.guard_table.specs.Meaning.Loadable.{sizeOk, fieldsOk, tableHeadOk, entriesOk, rowOk, rowsOk, loadable};
 ghost use Rattle.guard_table.specs.Model.Inside.{Sized};
 
 // Whether the count is in range, and the slice is as long as a table of so many states.
@@ -42,7 +42,7 @@ fn fields_ok(mode: u8, inputs: u8, outputs: u8, horizon: u8, count: u16, size: u
 
 // Whether the head is a guard table's.
 fn head_ok(t: &[u8]) -> bool
-    ensures { λ r. ⌜ r ≡ headOk (now (t .entry)) ⌝ }
+    ensures { λ r. ⌜ r ≡ tableHeadOk (now (t .entry)) ⌝ }
 {
     if t.len() < Layout::HEAD_LENGTH {
         return false;

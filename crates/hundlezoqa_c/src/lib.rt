@@ -7,9 +7,9 @@ ghost use mathlib.Core.Path.{_≡_};
 ghost use Prim.Native.Nat.{_≤_};
 ghost use lib.ListN.{length};
 ghost use Rattle.records.specs.Meaning.Numbers.{zeros};
-ghost use Rattle.guard.specs.Promises.Guard.{lent};
-ghost use Rattle.board_bytes.specs.Meaning.Board.{boardLength};
-ghost use Rattle.board_bytes.specs.Promises.Calls.{Loads, Steps, Rewinds, Unloads};
+ghost use Rattle.guard.specs.Promises.GuardMaker.{lent};
+ghost use Rattle.board_bytes.specs.Meaning.BoardBytes.{boardLength};
+ghost use Rattle.board_bytes.specs.Promises.ByteCalls.{LoadCall, StepCall, RewindCall, UnloadCall};
 ghost use Rattle.hundlezoqa_c.specs.Promises.Library.{ReportsSupervisor, ReportsGuard};
 
 // Makes a supervisor table.
@@ -83,7 +83,7 @@ pub extern "C" fn hz_make_guard(
 #[no_mangle]
 pub extern "C" fn hz_load(board: &mut [u8], table: &[u8]) -> u32
     requires { ⌜ length (now board) ≡ boardLength ⌝ }
-    ensures { λ r. ⌜ Loads (now (board .entry)) (now (table .entry)) r (now (board .exit)) ⌝ }
+    ensures { λ r. ⌜ LoadCall (now (board .entry)) (now (table .entry)) r (now (board .exit)) ⌝ }
 {
     board_bytes::load(board, table)
 }
@@ -92,7 +92,7 @@ pub extern "C" fn hz_load(board: &mut [u8], table: &[u8]) -> u32
 #[no_mangle]
 pub extern "C" fn hz_step(board: &mut [u8], table: &[u8], input: u8) -> u32
     requires { ⌜ length (now board) ≡ boardLength ⌝ }
-    ensures { λ r. ⌜ Steps (now (board .entry)) (now (table .entry)) input r (now (board .exit)) ⌝ }
+    ensures { λ r. ⌜ StepCall (now (board .entry)) (now (table .entry)) input r (now (board .exit)) ⌝ }
 {
     board_bytes::step(board, table, input)
 }
@@ -101,7 +101,7 @@ pub extern "C" fn hz_step(board: &mut [u8], table: &[u8], input: u8) -> u32
 #[no_mangle]
 pub extern "C" fn hz_rewind(board: &mut [u8]) -> u32
     requires { ⌜ length (now board) ≡ boardLength ⌝ }
-    ensures { λ r. ⌜ Rewinds (now (board .entry)) r (now (board .exit)) ⌝ }
+    ensures { λ r. ⌜ RewindCall (now (board .entry)) r (now (board .exit)) ⌝ }
 {
     board_bytes::rewind(board)
 }
@@ -110,7 +110,7 @@ pub extern "C" fn hz_rewind(board: &mut [u8]) -> u32
 #[no_mangle]
 pub extern "C" fn hz_unload(board: &mut [u8]) -> u32
     requires { ⌜ length (now board) ≡ boardLength ⌝ }
-    ensures { λ r. ⌜ Unloads (now (board .entry)) r (now (board .exit)) ⌝ }
+    ensures { λ r. ⌜ UnloadCall (now (board .entry)) r (now (board .exit)) ⌝ }
 {
     board_bytes::unload(board)
 }

@@ -1,3 +1,2 @@
 -- The listing program: what it prints (Printed), and the laws behind it.
 pub mod Promises
-pub mod Laws

@@ -9,13 +9,13 @@ use native.Mathlib.Omega.{arith}
 use lib.Seq.{sets, length-sets, take-append-seam}
 use Rattle.records.specs.Laws.Lists.{sets-front}
 use Rattle.records.specs.Meaning.Numbers.{zeros}
-use Rattle.product.specs.Model.Numbered.{stateCount}
-use Rattle.supervisor.specs.Model.Table.{supervisorTable}
-use Rattle.supervisor.specs.Promises.Supervisor.{workOk, MakesSupervisor}
+use Rattle.product.specs.Model.ProductNumbering.{stateCount}
+use Rattle.supervisor.specs.Model.SupervisorOfSheet.{supervisorTable}
+use Rattle.supervisor.specs.Promises.SupervisorMaker.{workOk, MakesSupervisor}
 use Rattle.solve.specs.declared.made.Made.{Made}
-use Rattle.plan.specs.Model.Table.{guardTableOf, statesOf}
-use Rattle.guard.specs.Promises.Guard as guard
-use Rattle.guard.specs.Promises.Guard.{Work, lent, MakesGuard}
+use Rattle.plan.specs.Model.GuardOfSheet.{guardTableOf, statesOf}
+use Rattle.guard.specs.Promises.GuardMaker as guard
+use Rattle.guard.specs.Promises.GuardMaker.{Work, lent, MakesGuard}
 use Rattle.notebook.specs.Model.Counters.{sheetBytes, length-sheet, Answered}
 
 -- a new array's length

@@ -1,3 +1,3 @@
 -- Theorems that other crates and the sources cite.
 pub mod Opened
-pub mod Rows
+pub mod Notebook

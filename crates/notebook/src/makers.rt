@@ -4,9 +4,9 @@ use guard::make::Guard;
 use solve::made::Made;
 use supervisor::make::Supervisor;
 ghost use Prim.Native.Nat.{_≤_};
-ghost use Rattle.product.specs.Model.Numbered.{stateCount};
-ghost use Rattle.supervisor.specs.Model.Table.{supervisorTable};
-ghost use Rattle.plan.specs.Model.Table.{guardTableOf, statesOf};
+ghost use Rattle.product.specs.Model.ProductNumbering.{stateCount};
+ghost use Rattle.supervisor.specs.Model.SupervisorOfSheet.{supervisorTable};
+ghost use Rattle.plan.specs.Model.GuardOfSheet.{guardTableOf, statesOf};
 ghost use Rattle.notebook.specs.Model.Counters.{sheetBytes, Answered};
 
 fn supervisor_of(sheet: &[u8]) -> Made

@@ -1,8 +1,8 @@
 -- Theorems that other crates and the sources cite.
 pub mod Playing
 pub mod Planned
-pub mod Agree
+pub mod SamePlan
 pub mod Best
 pub mod Reaching
 pub mod Solved
-pub mod Judged
+pub mod Answered

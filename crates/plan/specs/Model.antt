@@ -1,4 +1,4 @@
 -- Definitions that go the way the code goes.
-pub mod Table
+pub mod GuardOfSheet
 pub mod Playing
 pub mod Planned

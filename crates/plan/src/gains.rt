@@ -30,14 +30,14 @@ pub fn fill_gains(s: &[u8], sheet: Sheet, tuples: &[u8], gains: &mut [u16], n: u
 }
 
 // The bonus of each letter.
-pub fn fill_bonuses(sheet: Sheet, bonuses: &mut [u16], inputs: usize, outputs: usize)
+pub fn fill_bonuses(sheet: Sheet, bonuses: &mut [u16], ins: usize, outs: usize)
     requires { ⌜ ((s : List ℕ) × Fits s sheet) ⌝ }
-    requires { ⌜ (1 ≤ inputs) × (inputs * outputs ≤ length (now bonuses)) ⌝ }
-    ensures { λ _. ⌜ ((s : List ℕ) → now (bonuses .exit) ≡ put (now (bonuses .entry)) (inputs * outputs) (λ l. matchReward (decoded s sheet) (l % inputs) (l / inputs))) ⌝ }
+    requires { ⌜ (1 ≤ ins) × (ins * outs ≤ length (now bonuses)) ⌝ }
+    ensures { λ _. ⌜ ((s : List ℕ) → now (bonuses .exit) ≡ put (now (bonuses .entry)) (ins * outs) (λ l. matchReward (decoded s sheet) (l % ins) (l / ins))) ⌝ }
 {
     let mut l: usize = 0;
-    while l < inputs * outputs {
-        bonuses[l] = match_reward(sheet, l % inputs, l / inputs) as u16;
+    while l < ins * outs {
+        bonuses[l] = match_reward(sheet, l % ins, l / ins) as u16;
         l += 1;
     }
 }

@@ -11,7 +11,7 @@ ghost use Prim.Native.Nat.{_^_};
 ghost use Rattle.records.specs.Meaning.Limits.{horizonOk};
 ghost use Rattle.sheet.specs.Meaning.Decoded.{inputLines};
 ghost use Rattle.sheet.specs.Model.Where.{Fits, decoded};
-ghost use Rattle.values.specs.Model.Numbered.{stepsOf};
+ghost use Rattle.values.specs.Model.GuardNumbering.{stepsOf};
 ghost use Rattle.plan.specs.Model.Planned.{Room, Playable, Planned};
 
 // The guard over a horizon, of a solved sheet whose start is kept: what steps earn, what states are worth, what is chosen,
@@ -20,8 +20,8 @@ pub fn plan(
     s: &[u8],
     sheet: Sheet,
     horizon: u8,
-    inputs: usize,
-    outputs: usize,
+    ins: usize,
+    outs: usize,
     n: usize,
     tuples: &[u8],
     cells: &[u16],
@@ -36,19 +36,19 @@ pub fn plan(
 ) -> usize
     requires { ⌜ Fits (now s) sheet ⌝ }
     requires { ⌜ Playable (decoded (now s) sheet) n (now tuples) (now cells) (now dropped) ⌝ }
-    requires { ⌜ (inputs ≡ 2 ^ sheet .inputs) × ((outputs ≡ 2 ^ sheet .outputs) × (horizonOk (inputLines (decoded (now s) sheet)) horizon ≡ true)) ⌝ }
+    requires { ⌜ (ins ≡ 2 ^ sheet .inputs) × ((outs ≡ 2 ^ sheet .outputs) × (horizonOk (inputLines (decoded (now s) sheet)) horizon ≡ true)) ⌝ }
     requires { ⌜ Room (now tuples) (now cells) (now dropped) (now gains) (now bonuses) (now values) (now next) (now choices) (now order) (now numbers) ⌝ }
-    ensures { λ r. ⌜ Planned (decoded (now (s .entry)) sheet) horizon (stepsOf (now (cells .entry)) inputs outputs) (now (choices .exit)) (now (order .exit)) (now (numbers .exit)) n r ⌝ }
+    ensures { λ r. ⌜ Planned (decoded (now (s .entry)) sheet) horizon (stepsOf (now (cells .entry)) ins outs) (now (choices .exit)) (now (order .exit)) (now (numbers .exit)) n r ⌝ }
 {
     fill_gains(s, sheet, tuples, gains, n);
-    fill_bonuses(sheet, bonuses, inputs, outputs);
+    fill_bonuses(sheet, bonuses, ins, outs);
     let words = value_rows(
         cells,
         dropped,
         gains,
         bonuses,
-        inputs,
-        outputs,
+        ins,
+        outs,
         n,
         values,
         next,
@@ -61,8 +61,8 @@ pub fn plan(
         dropped,
         gains,
         bonuses,
-        inputs,
-        outputs,
+        ins,
+        outs,
         n,
         literals,
         count,
@@ -70,5 +70,5 @@ pub fn plan(
         words,
         choices,
     );
-    guard_states(cells, inputs, outputs, n, choices, order, numbers)
+    guard_states(cells, ins, outs, n, choices, order, numbers)
 }

@@ -1,8 +1,8 @@
 // The maker of guard tables, but for the work memory, which is left as it falls.
 use crate::horizon::plan;
+use guard_rows::table::write;
 use guard_table::layout::Layout;
 use records::numbers::pow2;
-use guard_rows::table::write;
 use sheet::layout::Refusal;
 use sheet::layout::Verdict;
 use solve::made::Made;
@@ -10,7 +10,7 @@ use solve::opening::open_sheet;
 ghost use mathlib.Core.Path.{_≡_};
 ghost use mathlib.Core.Bool.{true};
 ghost use Rattle.solve.specs.Model.Making.{Answers};
-ghost use Rattle.plan.specs.Model.Table.{guardTableOf, statesOf};
+ghost use Rattle.plan.specs.Model.GuardOfSheet.{guardTableOf, statesOf};
 ghost use Rattle.plan.specs.Model.Planned.{Room};
 
 // The opening, then the guard over the sheet's horizon, then 9, and the result is written only then. `ok` says that the work memory is
@@ -40,15 +40,15 @@ pub fn make_with(
         Verdict::Accepted => {
             let sheet = opening.sheet;
             let states = opening.states;
-            let inputs = pow2(sheet.inputs);
-            let outputs = pow2(sheet.outputs);
+            let ins = pow2(sheet.inputs);
+            let outs = pow2(sheet.outputs);
             let horizon = sheet.horizon;
             let count = plan(
                 s,
                 sheet,
                 horizon,
-                inputs,
-                outputs,
+                ins,
+                outs,
                 states,
                 tuples,
                 cells,
@@ -72,8 +72,8 @@ pub fn make_with(
                 result,
                 sheet,
                 horizon,
-                inputs,
-                outputs,
+                ins,
+                outs,
                 states,
                 cells,
                 choices,

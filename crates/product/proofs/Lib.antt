@@ -1,3 +1,4 @@
 -- Laws that belong to no one function.
 pub mod Stores
 pub mod Moving
+pub mod LaidOut

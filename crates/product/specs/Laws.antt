@@ -1,8 +1,7 @@
 -- Theorems that other crates and the sources cite.
-pub mod Numbered
-pub mod Lines
+pub mod ProductNumbering
+pub mod Differs
 pub mod Ordered
 pub mod Range
-pub mod Reads
 pub mod Rewards
 pub mod Tuples

@@ -1,12 +1,12 @@
 // The listing of a guard table, and what is said where there is none, as text.
 use guard_table::loadable::is_loadable;
-use solve::made::Made;
 use listing_text::lengths::listing_length;
 use listing_text::lengths::number_length;
 use listing_text::put_byte;
 use listing_text::put_labelled;
 use listing_text::put_listing;
 use listing_text::put_word;
+use solve::made::Made;
 ghost use mathlib.Core.Bool.{true};
 ghost use Rattle.guard_table.specs.Meaning.Loadable.{loadable};
 ghost use Rattle.listing_text.specs.Meaning.Listing.{listingOf, refusedText, tooLongText};

@@ -4,3 +4,4 @@ pub mod Search
 pub mod Turn
 pub mod Settling
 pub mod Masking
+pub mod Examples

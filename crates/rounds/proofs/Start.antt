@@ -10,7 +10,7 @@ use borrow.Author.Tests.{eqb-true, eq-eqb, ne-eqb}
 use Rattle.records.specs.Laws.Tests.{by-test}
 use Rattle.records.specs.Laws.Lists.{put-ext, put-self, getD-put-front}
 use Rattle.records.specs.Model.Cells.{isBroken}
-use Rattle.rounds.specs.Model.Rounds.{isIn, leadsIn}
+use Rattle.rounds.specs.Model.TableRounds.{isIn, leadsIn}
 use Rattle.rounds.specs.Model.InPlace.{atStart}
 
 start-at : (r : ℕ) (d : List ℕ) (k : ℕ) → k < length d

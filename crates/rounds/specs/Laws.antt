@@ -1,6 +1,5 @@
 -- Theorems that other crates and the sources cite.
-pub mod Rounds
-pub mod Agree
-pub mod Cells
+pub mod TableRounds
+pub mod SameRounds
+pub mod CellPlaces
 pub mod Masks
-pub mod Examples

@@ -1,3 +1,3 @@
 -- Definitions that go the way the code goes.
-pub mod Rounds
+pub mod TableRounds
 pub mod InPlace

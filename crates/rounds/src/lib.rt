@@ -7,16 +7,16 @@ ghost use mathlib.Core.Path.{_≡_};
 ghost use Prim.Native.Nat.{ℕ, _<_, _≤_};
 ghost use lib.ListN.{length, getD};
 ghost use Rattle.records.specs.Meaning.Limits.{maxStates};
-ghost use Rattle.rounds.specs.Model.Rounds.{Steps, cellAt, isIn, leadsIn, stays, maskOf, Settled};
-ghost use Rattle.rounds.specs.Laws.Cells.{InRow, Entered, Leads};
+ghost use Rattle.rounds.specs.Model.TableRounds.{Steps, cellAt, isIn, leadsIn, stays, maskOf, Settled};
+ghost use Rattle.rounds.specs.Laws.CellPlaces.{InRow, CellEntered, CellLeads};
 ghost use Rattle.rounds.specs.Model.InPlace.{atStart, drops, Rounded};
 
 // Where the cell of a state, an input and an output stands.
-pub fn cell_at(inputs: usize, outputs: usize, k: usize, i: usize, o: usize) -> usize
-    requires { ⌜ InRow inputs outputs k i o ⌝ }
-    ensures { λ r. ⌜ r ≡ cellAt inputs outputs k i o ⌝ }
+pub fn cell_at(ins: usize, outs: usize, k: usize, i: usize, o: usize) -> usize
+    requires { ⌜ InRow ins outs k i o ⌝ }
+    ensures { λ r. ⌜ r ≡ cellAt ins outs k i o ⌝ }
 {
-    k * (inputs * outputs) + (i + inputs * o)
+    k * (ins * outs) + (i + ins * o)
 }
 
 // Whether no round has dropped a state.
@@ -29,7 +29,7 @@ pub fn is_kept(dropped: &[u16], k: usize) -> bool
 
 // Whether a cell is an unbroken step to a state that was in at the start of a round.
 pub fn cell_leads(cells: &[u16], dropped: &[u16], round: u16, at: usize) -> bool
-    requires { ⌜ Leads (now cells) (now dropped) at ⌝ }
+    requires { ⌜ CellLeads (now cells) (now dropped) at ⌝ }
     ensures { λ r. ⌜ r ≡ leadsIn (now (cells .entry)) (atStart round (now (dropped .entry))) at ⌝ }
 {
     let cell = cells[at];
@@ -45,7 +45,7 @@ pub fn cell_leads(cells: &[u16], dropped: &[u16], round: u16, at: usize) -> bool
 
 // Whether a cell is an unbroken step to a state that is kept.
 pub fn leads_to_kept(cells: &[u16], dropped: &[u16], at: usize) -> bool
-    requires { ⌜ Leads (now cells) (now dropped) at ⌝ }
+    requires { ⌜ CellLeads (now cells) (now dropped) at ⌝ }
     ensures { λ r. ⌜ r ≡ leadsIn (now (cells .entry)) (now (dropped .entry)) at ⌝ }
 {
     cell_leads(cells, dropped, 0, at)
@@ -56,30 +56,30 @@ pub fn state_stays(
     cells: &[u16],
     dropped: &[u16],
     n: usize,
-    inputs: usize,
-    outputs: usize,
+    ins: usize,
+    outs: usize,
     k: usize,
     round: u16,
 ) -> bool
-    requires { ⌜ Steps (now cells) n inputs outputs ⌝ }
-    requires { ⌜ Entered (now dropped) n k ⌝ }
-    ensures { λ r. ⌜ r ≡ stays (now (cells .entry)) (atStart round (now (dropped .entry))) inputs outputs k ⌝ }
+    requires { ⌜ Steps (now cells) n ins outs ⌝ }
+    requires { ⌜ CellEntered (now dropped) n k ⌝ }
+    ensures { λ r. ⌜ r ≡ stays (now (cells .entry)) (atStart round (now (dropped .entry))) ins outs k ⌝ }
 {
     let mut i: usize = 0;
-    'inputs: while i < inputs {
+    'inputs: while i < ins {
         let mut o: usize = 0;
         'search: loop {
-            if outputs <= o {
+            if outs <= o {
                 break 'inputs;
             }
-            if cell_leads(cells, dropped, round, cell_at(inputs, outputs, k, i, o)) {
+            if cell_leads(cells, dropped, round, cell_at(ins, outs, k, i, o)) {
                 break 'search;
             }
             o += 1;
         }
         i += 1;
     }
-    inputs <= i
+    ins <= i
 }
 
 // Whether a round drops a state.
@@ -87,19 +87,19 @@ pub fn round_drops(
     cells: &[u16],
     dropped: &[u16],
     n: usize,
-    inputs: usize,
-    outputs: usize,
+    ins: usize,
+    outs: usize,
     k: usize,
     round: u16,
 ) -> bool
-    requires { ⌜ Steps (now cells) n inputs outputs ⌝ }
-    requires { ⌜ Entered (now dropped) n k ⌝ }
-    ensures { λ r. ⌜ r ≡ drops (now (cells .entry)) inputs outputs round (now (dropped .entry)) k ⌝ }
+    requires { ⌜ Steps (now cells) n ins outs ⌝ }
+    requires { ⌜ CellEntered (now dropped) n k ⌝ }
+    ensures { λ r. ⌜ r ≡ drops (now (cells .entry)) ins outs round (now (dropped .entry)) k ⌝ }
 {
     if !is_kept(dropped, k) {
         return false;
     }
-    !state_stays(cells, dropped, n, inputs, outputs, k, round)
+    !state_stays(cells, dropped, n, ins, outs, k, round)
 }
 
 // One round in place; how many states it dropped.
@@ -107,19 +107,19 @@ pub fn one_round(
     cells: &[u16],
     dropped: &mut [u16],
     n: usize,
-    inputs: usize,
-    outputs: usize,
+    ins: usize,
+    outs: usize,
     round: u16,
 ) -> usize
-    requires { ⌜ Steps (now cells) n inputs outputs ⌝ }
+    requires { ⌜ Steps (now cells) n ins outs ⌝ }
     requires { ⌜ n ≤ length (now dropped) ⌝ }
     requires { ⌜ ((k : ℕ) → k < n → getD (now dropped) k 0 < round) ⌝ }
-    ensures { λ r. ⌜ Rounded (now (cells .entry)) n inputs outputs round (now (dropped .entry)) (now (dropped .exit)) r ⌝ }
+    ensures { λ r. ⌜ Rounded (now (cells .entry)) n ins outs round (now (dropped .entry)) (now (dropped .exit)) r ⌝ }
 {
     let mut lost: usize = 0;
     let mut k: usize = 0;
     while k < n {
-        if round_drops(cells, dropped, n, inputs, outputs, k, round) {
+        if round_drops(cells, dropped, n, ins, outs, k, round) {
             dropped[k] = round;
             lost += 1;
         }
@@ -129,16 +129,16 @@ pub fn one_round(
 }
 
 // The rounds, to the first that drops nothing; how many states are kept.
-pub fn settle(cells: &[u16], dropped: &mut [u16], n: usize, inputs: usize, outputs: usize) -> usize
-    requires { ⌜ Steps (now cells) n inputs outputs ⌝ }
+pub fn settle(cells: &[u16], dropped: &mut [u16], n: usize, ins: usize, outs: usize) -> usize
+    requires { ⌜ Steps (now cells) n ins outs ⌝ }
     requires { ⌜ (n ≤ length (now dropped)) × (n ≤ maxStates) ⌝ }
-    ensures { λ r. ⌜ Settled (now (cells .entry)) n inputs outputs (now (dropped .entry)) (now (dropped .exit)) r ⌝ }
+    ensures { λ r. ⌜ Settled (now (cells .entry)) n ins outs (now (dropped .entry)) (now (dropped .exit)) r ⌝ }
 {
     clear_front16(dropped, n);
     let mut kept = n;
     let mut made: u16 = 0;
     loop {
-        let lost = one_round(cells, dropped, n, inputs, outputs, made + 1);
+        let lost = one_round(cells, dropped, n, ins, outs, made + 1);
         if lost == 0 {
             break kept;
         }
@@ -152,23 +152,23 @@ pub fn mask_of(
     cells: &[u16],
     dropped: &[u16],
     n: usize,
-    inputs: usize,
-    outputs: usize,
+    ins: usize,
+    outs: usize,
     k: usize,
     i: usize,
 ) -> u8
-    requires { ⌜ Steps (now cells) n inputs outputs ⌝ }
-    requires { ⌜ Entered (now dropped) n k ⌝ }
-    requires { ⌜ (i < inputs) × (outputs ≤ 8) ⌝ }
-    ensures { λ r. ⌜ r ≡ maskOf (now (cells .entry)) (now (dropped .entry)) inputs outputs k i ⌝ }
+    requires { ⌜ Steps (now cells) n ins outs ⌝ }
+    requires { ⌜ CellEntered (now dropped) n k ⌝ }
+    requires { ⌜ (i < ins) × (outs ≤ 8) ⌝ }
+    ensures { λ r. ⌜ r ≡ maskOf (now (cells .entry)) (now (dropped .entry)) ins outs k i ⌝ }
 {
     if !is_kept(dropped, k) {
         return 0;
     }
     let mut mask: u8 = 0;
     let mut o: usize = 0;
-    while o < outputs {
-        if leads_to_kept(cells, dropped, cell_at(inputs, outputs, k, i, o)) {
+    while o < outs {
+        if leads_to_kept(cells, dropped, cell_at(ins, outs, k, i, o)) {
             mask += 1u8 << o;
         }
         o += 1;

@@ -13,20 +13,20 @@ use Rattle.records.specs.Meaning.Limits.{maxLines, maxMonitors, horizonOk}
 use Rattle.records.specs.declared.cursor.Cursor.{Cursor}
 use Rattle.records.specs.declared.cursor.Found.{Found}
 use Rattle.records.specs.declared.cursor.Found.the-variants as found
-use Rattle.sheet.specs.Meaning.Decoded.{inputsOf}
+use Rattle.sheet.specs.Meaning.Decoded.{guardLines}
 use Rattle.sheet.specs.Model.Layout.{withMonitor, accepted, refused}
 use Rattle.sheet_fields.specs.Meaning.Places.{modeAt, siteAt, outputsAt, horizonAt}
 use Rattle.sheet_fields.specs.Meaning.Head.{headOk}
 use Rattle.sheet_fields.specs.Meaning.Monitor.{monitorOk}
-use Rattle.sheet.specs.Model.Head.{headSheet, readHead}
-use Rattle.sheet.specs.Model.Monitor.{monitorAt, takeMonitor}
+use Rattle.sheet.specs.Model.HeadRecord.{headSheet, readHead}
+use Rattle.sheet.specs.Model.MonitorRecord.{monitorAt, takeMonitor}
 use Rattle.sheet.specs.Model.Reader.{takeRecord, onFound, readRecords}
 use Rattle.sheet.specs.declared.layout.Sheet.{Sheet}
 use Rattle.sheet.specs.declared.layout.Refusal.{Refusal}
 use Rattle.sheet.specs.declared.layout.Refusal.the-variants.{Truncated, Misplaced, BadHead, BadMonitor, SeventhMonitor, LongHorizon}
 use Rattle.sheet.specs.declared.layout.Verdict.the-variants.{Accepted, Refused}
 use Rattle.sheet.specs.declared.layout.Reading.{Reading}
-use Rattle.sheet_fields.specs.Laws.Facts.{head-facts}
+use Rattle.sheet_fields.specs.Laws.FieldFacts.{head-facts}
 
 -- the lines that monitors read: site lines and outputs
 abbrev pub lines : Sheet → ℕ
@@ -40,7 +40,7 @@ pub head-lines : (s : List ℕ) (start size : ℕ) → readHead s start size .ve
 unfolding readHead headSheet
 head-lines s start size e =
     go (headOk s start size)
-    (horizonOk (inputsOf (modeAt s start) (siteAt s start) (outputsAt s start)) (horizonAt s start))
+    (horizonOk (guardLines (modeAt s start) (siteAt s start) (outputsAt s start)) (horizonAt s start))
     (λ t. head-facts s start size t .lines-most) e
   where
     go : (a b : Bool) → (a ≡ true → lines (headSheet s start) ≤ maxLines)

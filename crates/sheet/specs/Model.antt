@@ -1,6 +1,6 @@
 -- Definitions that go the way the code goes.
 pub mod Layout
 pub mod Where
-pub mod Head
+pub mod HeadRecord
 pub mod Reader
-pub mod Monitor
+pub mod MonitorRecord

@@ -3,17 +3,17 @@ use crate::layout::Monitor;
 use crate::layout::Reading;
 use crate::layout::Refusal;
 use crate::layout::Sheet;
-use sheet_fields::head::head_ok;
-use sheet_fields::head::inputs_of;
-use sheet_fields::head::literal_at;
 use records::limits::Limits;
 use records::limits::horizon_ok;
+use sheet_fields::head::guard_lines;
+use sheet_fields::head::head_ok;
+use sheet_fields::head::literal_at;
 ghost use mathlib.Core.Path.{_≡_};
 ghost use Prim.Native.Nat.{_+_, _≤_};
 ghost use lib.ListN.{length};
 ghost use Rattle.records.specs.Meaning.Limits.{maxInputs, maxOutputs};
 ghost use Rattle.sheet_fields.specs.Meaning.Places.{siteAt, outputsAt, literalsFrom};
-ghost use Rattle.sheet.specs.Model.Head.{headSheet, readHead};
+ghost use Rattle.sheet.specs.Model.HeadRecord.{headSheet, readHead};
 
 // The sheet of a head that is in order, with no monitors yet.
 pub fn head_sheet(s: &[u8], start: usize) -> Sheet
@@ -25,7 +25,7 @@ pub fn head_sheet(s: &[u8], start: usize) -> Sheet
     Sheet {
         mode: s[start],
         site: s[start + 1],
-        inputs: inputs_of(s[start], s[start + 1], outputs),
+        inputs: guard_lines(s[start], s[start + 1], outputs),
         outputs,
         horizon: s[start + 3],
         matching: s[start + 4],
@@ -47,7 +47,7 @@ pub fn read_head(s: &[u8], start: usize, size: usize) -> Reading
     if !head_ok(s, start, size) {
         return Reading::refused(Refusal::BadHead);
     }
-    let inputs = inputs_of(s[start], s[start + 1], s[start + 2]);
+    let inputs = guard_lines(s[start], s[start + 1], s[start + 2]);
     if !horizon_ok(inputs, s[start + 3]) {
         return Reading::refused(Refusal::LongHorizon);
     }

@@ -3,19 +3,19 @@ use crate::layout::Monitor;
 use crate::layout::Reading;
 use crate::layout::Refusal;
 use crate::layout::Sheet;
+use records::limits::Limits;
 use sheet_fields::monitor::bytes_most;
-use sheet_fields::monitor::letters_of;
+use sheet_fields::monitor::letters_read;
 use sheet_fields::monitor::role_ok;
 use sheet_fields::monitor::states_ok;
 use sheet_fields::places::Fixed;
-use records::limits::Limits;
 ghost use mathlib.Core.Path.{_≡_};
 ghost use Prim.Native.Nat.{_+_, _<_, _≤_};
 ghost use lib.ListN.{length};
 ghost use Rattle.records.specs.Meaning.Limits.{maxLines};
 ghost use Rattle.sheet_fields.specs.Meaning.Places.{acceptFrom};
 ghost use Rattle.sheet_fields.specs.Meaning.Monitor.{monitorOk};
-ghost use Rattle.sheet.specs.Model.Monitor.{monitorAt, takeMonitor};
+ghost use Rattle.sheet.specs.Model.MonitorRecord.{monitorAt, takeMonitor};
 
 // Whether a monitor's body is in order; its tables are looked at only where its numbers are.
 pub fn monitor_ok(s: &[u8], sheet: Sheet, start: usize, size: usize) -> bool
@@ -28,7 +28,7 @@ pub fn monitor_ok(s: &[u8], sheet: Sheet, start: usize, size: usize) -> bool
     if !role_ok(sheet.mode, s[start], s[start + 1]) {
         return false;
     }
-    let letters = letters_of(s[start], sheet.site, sheet.outputs);
+    let letters = letters_read(s[start], sheet.site, sheet.outputs);
     let states = s[start + 2];
     if !states_ok(states, s[start + 3], letters, size) {
         return false;

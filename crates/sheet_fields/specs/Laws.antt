@@ -1,2 +1,2 @@
 -- Theorems that other crates and the sources cite.
-pub mod Facts
+pub mod FieldFacts

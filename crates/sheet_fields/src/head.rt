@@ -7,14 +7,14 @@ ghost use Prim.Native.Nat.{_+_, _<_, _≤_};
 ghost use lib.ListN.{length};
 ghost use Rattle.records.specs.Meaning.Limits.{maxInputs, maxOutputs};
 ghost use Rattle.sheet_fields.specs.Meaning.Places.{literalsFrom};
-ghost use Rattle.sheet_fields.specs.Meaning.Lines.{inputsOf};
+ghost use Rattle.sheet_fields.specs.Meaning.Lines.{guardLines};
 ghost use Rattle.sheet_fields.specs.Meaning.Head.{siteOk, freshLine, literalOk, literalsOk, numbersOk, headOk};
 ghost use Rattle.sheet_fields.specs.Model.Head.{literalAt};
 
 // The guard's input lines: in mode 1 the proposal's lines come on top of the site's.
-pub fn inputs_of(mode: u8, site: u8, outputs: u8) -> u8
+pub fn guard_lines(mode: u8, site: u8, outputs: u8) -> u8
     requires { ⌜ (site ≤ maxInputs) × (outputs ≤ maxOutputs) ⌝ }
-    ensures { λ r. ⌜ r ≡ inputsOf mode site outputs ⌝ }
+    ensures { λ r. ⌜ r ≡ guardLines mode site outputs ⌝ }
 {
     if mode == 1 {
         return site + outputs;
@@ -32,7 +32,7 @@ pub fn site_ok(mode: u8, site: u8, outputs: u8) -> bool
     if Limits::OUTPUTS < outputs {
         return false;
     }
-    lines_ok(mode, inputs_of(mode, site, outputs), outputs)
+    lines_ok(mode, guard_lines(mode, site, outputs), outputs)
 }
 
 // Whether no literal before the one at j names its line.

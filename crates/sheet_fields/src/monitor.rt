@@ -6,7 +6,7 @@ ghost use mathlib.Core.Path.{_≡_};
 ghost use Prim.Native.Nat.{_+_, _≤_};
 ghost use lib.ListN.{length};
 ghost use Rattle.records.specs.Meaning.Limits.{maxLines};
-ghost use Rattle.sheet_fields.specs.Meaning.Lines.{lettersOf};
+ghost use Rattle.sheet_fields.specs.Meaning.Lines.{lettersRead};
 ghost use Rattle.sheet_fields.specs.Meaning.Monitor.{roleOk, statesOk, bytesMost};
 
 // Whether role and weight are in order: hard with no weight, soft with one, a limit in mode 1 with none.
@@ -22,9 +22,9 @@ pub fn role_ok(mode: u8, role: u8, weight: u8) -> bool
 }
 
 // The letters that a monitor reads.
-pub fn letters_of(role: u8, site: u8, outputs: u8) -> usize
+pub fn letters_read(role: u8, site: u8, outputs: u8) -> usize
     requires { ⌜ site + outputs ≤ maxLines ⌝ }
-    ensures { λ r. ⌜ (r ≡ lettersOf role site outputs) × (r ≤ 64) ⌝ }
+    ensures { λ r. ⌜ (r ≡ lettersRead role site outputs) × (r ≤ 64) ⌝ }
 {
     match role {
         2 => 4,

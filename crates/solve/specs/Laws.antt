@@ -1,7 +1,6 @@
 -- Theorems that other crates and the sources cite.
-pub mod Numbered
+pub mod NumberedGame
 pub mod Entries
-pub mod Grounds
+pub mod StateGrounds
 pub mod Solving
 pub mod Judging
-pub mod Opening

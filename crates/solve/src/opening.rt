@@ -10,7 +10,7 @@ ghost use mathlib.Core.Bool.{true};
 ghost use Prim.Native.Nat.{_≤_};
 ghost use lib.ListN.{length};
 ghost use Rattle.records.specs.Meaning.Limits.{maxStates};
-ghost use Rattle.product.specs.Model.Numbered.{tuplesLength, cellsLength};
+ghost use Rattle.product.specs.Model.ProductNumbering.{tuplesLength, cellsLength};
 ghost use Rattle.solve.specs.Model.Opening.{Opens, OpenAnswer, refusedBy};
 
 // A verdict, and where it accepts, the sheet, the number of its product states, and how many of them are kept; else 0.

@@ -1,7 +1,4 @@
 // The maker of supervisor tables.
-use supervisor_table::put_head;
-use supervisor_table::put_rows;
-use supervisor_table::table_length;
 use records::clear::clear8;
 use records::clear::clear16;
 use records::numbers::pow2;
@@ -9,16 +6,19 @@ use sheet::layout::Refusal;
 use sheet::layout::Verdict;
 use solve::made::Made;
 use solve::opening::open_sheet;
+use supervisor_table::put_head;
+use supervisor_table::put_rows;
+use supervisor_table::table_length;
 ghost use mathlib.Core.Path.{_≡_};
 ghost use mathlib.Core.Bool.{true};
 ghost use Prim.Native.Nat.{_≤_};
 ghost use lib.ListN.{length};
 ghost use Rattle.records.specs.Meaning.Limits.{maxStates};
 ghost use Rattle.records.specs.Meaning.Numbers.{zeros};
-ghost use Rattle.product.specs.Model.Numbered.{stateCount, tuplesLength, cellsLength};
+ghost use Rattle.product.specs.Model.ProductNumbering.{stateCount, tuplesLength, cellsLength};
 ghost use Rattle.solve.specs.Model.Making.{Answers};
-ghost use Rattle.supervisor.specs.Model.Table.{supervisorTable};
-ghost use Rattle.supervisor.specs.Promises.Supervisor.{workOk, MakesSupervisor};
+ghost use Rattle.supervisor.specs.Model.SupervisorOfSheet.{supervisorTable};
+ghost use Rattle.supervisor.specs.Promises.SupervisorMaker.{workOk, MakesSupervisor};
 
 // The maker: the work memory that it needs.
 pub struct Supervisor {
@@ -90,8 +90,8 @@ fn make_with(
         Verdict::Accepted => {
             let sheet = opening.sheet;
             let states = opening.states;
-            let inputs = pow2(sheet.inputs);
-            let length = table_length(inputs, states);
+            let ins = pow2(sheet.inputs);
+            let length = table_length(ins, states);
             if result.len() < length {
                 return Made::Refused(Refusal::ShortResult);
             }
@@ -102,7 +102,7 @@ fn make_with(
                 sheet.outputs,
                 states as u16,
             );
-            put_rows(result, cells, dropped, states, inputs, pow2(sheet.outputs));
+            put_rows(result, cells, dropped, states, ins, pow2(sheet.outputs));
             Made::Table { length, states }
         }
     }

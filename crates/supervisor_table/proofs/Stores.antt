@@ -9,7 +9,7 @@ use lib.ListN.{set}
 use lib.Seq.{sets}
 use Rattle.records.specs.Laws.Lists.{sets-append}
 use Rattle.records.specs.Meaning.Records.{header}
-use Rattle.supervisor_table.specs.Model.Rows.{rowLength, tableLength}
+use Rattle.supervisor_table.specs.Model.MaskRows.{maskRowLength, maskTableLength}
 
 -- a record: its header, its first byte, and the rest
 pub whole-record : (before : List ℕ) (at size kind first : ℕ) (rest : List ℕ) {now next : List ℕ}
@@ -24,7 +24,7 @@ whole-record before at size kind first rest {now} {next} e {x} is f =
     ∙ sets-append before at (header size kind) (first ∷ rest)
 
 -- the row of a state lies inside the table
-pub row-inside : (inputs n k : ℕ) {size room : ℕ} → size ≡ rowLength inputs → k < n → tableLength inputs n ≤ room
-    → 9 + k * size + (5 + inputs) ≤ room
-unfolding tableLength rowLength
-row-inside inputs n k e h fits = rw e (omega (arith, mul-le-mul-right (5 + inputs) h, suc-mul k (5 + inputs)))
+pub row-inside : (ins n k : ℕ) {size room : ℕ} → size ≡ maskRowLength ins → k < n → maskTableLength ins n ≤ room
+    → 9 + k * size + (5 + ins) ≤ room
+unfolding maskTableLength maskRowLength
+row-inside ins n k e h fits = rw e (omega (arith, mul-le-mul-right (5 + ins) h, suc-mul k (5 + ins)))

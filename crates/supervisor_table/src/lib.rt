@@ -11,23 +11,23 @@ ghost use lib.Seq.{sets};
 ghost use Rattle.records.specs.Meaning.Lists.{tab, cat};
 ghost use Rattle.records.specs.Meaning.Numbers.{u16Bytes};
 ghost use Rattle.records.specs.Meaning.Records.{header};
-ghost use Rattle.rounds.specs.Model.Rounds.{Steps, maskOf};
-ghost use Rattle.supervisor_table.specs.Model.Rows.{keptFlag, rowLength, tableLength, tableRow};
+ghost use Rattle.rounds.specs.Model.TableRounds.{Steps, maskOf};
+ghost use Rattle.supervisor_table.specs.Model.MaskRows.{keptFlag, maskRowLength, maskTableLength, tableRow};
 
 // The bytes of a row's record.
-pub fn row_length(inputs: usize) -> usize
-    requires { ⌜ inputs ≤ 16 ⌝ }
-    ensures { λ r. ⌜ (r ≡ rowLength inputs) × (r ≤ 21) ⌝ }
+pub fn row_length(ins: usize) -> usize
+    requires { ⌜ ins ≤ 16 ⌝ }
+    ensures { λ r. ⌜ (r ≡ maskRowLength ins) × (r ≤ 21) ⌝ }
 {
-    5 + inputs
+    5 + ins
 }
 
 // The bytes of a table with so many states.
-pub fn table_length(inputs: usize, count: usize) -> usize
-    requires { ⌜ (inputs ≤ 16) × (count ≤ 256) ⌝ }
-    ensures { λ r. ⌜ r ≡ tableLength inputs count ⌝ }
+pub fn table_length(ins: usize, count: usize) -> usize
+    requires { ⌜ (ins ≤ 16) × (count ≤ 256) ⌝ }
+    ensures { λ r. ⌜ r ≡ maskTableLength ins count ⌝ }
 {
-    9 + count * row_length(inputs)
+    9 + count * row_length(ins)
 }
 
 // The head, at the start of the result.
@@ -49,17 +49,17 @@ pub fn put_masks(
     cells: &[u16],
     dropped: &[u16],
     n: usize,
-    inputs: usize,
-    outputs: usize,
+    ins: usize,
+    outs: usize,
     k: usize,
 )
-    requires { ⌜ Steps (now cells) n inputs outputs ⌝ }
-    requires { ⌜ (n ≤ length (now dropped)) × ((n ≤ 256) × ((inputs ≤ 16) × ((outputs ≤ 8) × ((k < n) × (at + inputs ≤ length (now result)))))) ⌝ }
-    ensures { λ _. ⌜ now (result .exit) ≡ sets (now (result .entry)) at (tab inputs (maskOf (now (cells .entry)) (now (dropped .entry)) inputs outputs k)) ⌝ }
+    requires { ⌜ Steps (now cells) n ins outs ⌝ }
+    requires { ⌜ (n ≤ length (now dropped)) × ((n ≤ 256) × ((ins ≤ 16) × ((outs ≤ 8) × ((k < n) × (at + ins ≤ length (now result)))))) ⌝ }
+    ensures { λ _. ⌜ now (result .exit) ≡ sets (now (result .entry)) at (tab ins (maskOf (now (cells .entry)) (now (dropped .entry)) ins outs k)) ⌝ }
 {
     let mut i: usize = 0;
-    while i < inputs {
-        result[at + i] = mask_of(cells, dropped, n, inputs, outputs, k, i);
+    while i < ins {
+        result[at + i] = mask_of(cells, dropped, n, ins, outs, k, i);
         i += 1;
     }
 }
@@ -82,17 +82,17 @@ pub fn put_row(
     cells: &[u16],
     dropped: &[u16],
     n: usize,
-    inputs: usize,
-    outputs: usize,
+    ins: usize,
+    outs: usize,
     k: usize,
 )
-    requires { ⌜ Steps (now cells) n inputs outputs ⌝ }
-    requires { ⌜ (n ≤ length (now dropped)) × ((n ≤ 256) × ((inputs ≤ 16) × ((outputs ≤ 8) × ((k < n) × (at + (5 + inputs) ≤ length (now result)))))) ⌝ }
-    ensures { λ _. ⌜ now (result .exit) ≡ sets (now (result .entry)) at (tableRow (now (cells .entry)) (now (dropped .entry)) inputs outputs k) ⌝ }
+    requires { ⌜ Steps (now cells) n ins outs ⌝ }
+    requires { ⌜ (n ≤ length (now dropped)) × ((n ≤ 256) × ((ins ≤ 16) × ((outs ≤ 8) × ((k < n) × (at + (5 + ins) ≤ length (now result)))))) ⌝ }
+    ensures { λ _. ⌜ now (result .exit) ≡ sets (now (result .entry)) at (tableRow (now (cells .entry)) (now (dropped .entry)) ins outs k) ⌝ }
 {
-    put_header(result, at, (1 + inputs) as u16, 18);
+    put_header(result, at, (1 + ins) as u16, 18);
     result[at + 4] = kept_flag(dropped, k);
-    put_masks(result, at + 5, cells, dropped, n, inputs, outputs, k);
+    put_masks(result, at + 5, cells, dropped, n, ins, outs, k);
 }
 
 // The records of all states, after the head.
@@ -101,17 +101,17 @@ pub fn put_rows(
     cells: &[u16],
     dropped: &[u16],
     n: usize,
-    inputs: usize,
-    outputs: usize,
+    ins: usize,
+    outs: usize,
 )
-    requires { ⌜ Steps (now cells) n inputs outputs ⌝ }
-    requires { ⌜ (n ≤ length (now dropped)) × ((n ≤ 256) × ((inputs ≤ 16) × ((outputs ≤ 8) × (tableLength inputs n ≤ length (now result))))) ⌝ }
-    ensures { λ _. ⌜ now (result .exit) ≡ sets (now (result .entry)) 9 (cat n (tableRow (now (cells .entry)) (now (dropped .entry)) inputs outputs)) ⌝ }
+    requires { ⌜ Steps (now cells) n ins outs ⌝ }
+    requires { ⌜ (n ≤ length (now dropped)) × ((n ≤ 256) × ((ins ≤ 16) × ((outs ≤ 8) × (maskTableLength ins n ≤ length (now result))))) ⌝ }
+    ensures { λ _. ⌜ now (result .exit) ≡ sets (now (result .entry)) 9 (cat n (tableRow (now (cells .entry)) (now (dropped .entry)) ins outs)) ⌝ }
 {
-    let size = row_length(inputs);
+    let size = row_length(ins);
     let mut k: usize = 0;
     while k < n {
-        put_row(result, 9 + k * size, cells, dropped, n, inputs, outputs, k);
+        put_row(result, 9 + k * size, cells, dropped, n, ins, outs, k);
         k += 1;
     }
 }

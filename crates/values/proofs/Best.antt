@@ -9,21 +9,21 @@ use lib.ListN.{getD}
 use Rattle.records.specs.Meaning.Bounded.{sum}
 use Rattle.records.specs.Laws.Bounded.{sum-more, sum-most, top-more}
 use Rattle.records.specs.Model.Bounded.{top}
-use Rattle.rounds.specs.Model.Rounds.{cellAt, isIn, leadsIn}
-use Rattle.values.specs.Model.Values.{Game, mayGive, nextOf, earns, scoreOf, worth}
-use Rattle.values.specs.Model.Sizes.{Ready, scoreAt, Scored, bestOf}
+use Rattle.rounds.specs.Model.TableRounds.{cellAt, isIn, leadsIn}
+use Rattle.values.specs.Model.Values.{Game, mayGive, cellNext, earns, scoreOf, worth}
+use Rattle.values.specs.Model.Sizes.{Ready, scoreIn, Scored, bestOf}
 use Rattle.values.specs.Laws.Sizes.{scored-at}
 use Rattle.values.specs.Laws.Growth.{best-most}
 
-module _ {g : Game} {values : List ℕ} {factor k : ℕ} (ready : Ready g values factor k) (i : ℕ) (hi : i < g .inputs) where
+module _ {g : Game} {values : List ℕ} {factor k : ℕ} (ready : Ready g values factor k) (i : ℕ) (hi : i < g .ins) where
   -- the cell of output o
   abbrev at : ℕ → ℕ
-  at o = cellAt (g .inputs) (g .outputs) k i o
+  at o = cellAt (g .ins) (g .outs) k i o
 
   -- the score of an output that may be given can be worked out
-  pub scorable : {o to : ℕ} → o < g .outputs → leadsIn (g .cells) (g .dropped) (at o) ≡ true → to ≡ getD (g .cells) (at o) 0
-      → Scored (g .gains) (g .bonuses) values factor to (i + g .inputs * o)
-  unfolding mayGive nextOf
+  pub scorable : {o to : ℕ} → o < g .outs → leadsIn (g .cells) (g .dropped) (at o) ≡ true → to ≡ getD (g .cells) (at o) 0
+      → Scored (g .gains) (g .bonuses) values factor to (i + g .ins * o)
+  unfolding mayGive cellNext
   scorable ho may e = rw e (scored-at (ready .sized) (ready .valued) (ready .state) hi ho may)
 
 -- the best score of the outputs before o
@@ -32,19 +32,19 @@ bestBefore g values factor k i o = top o (mayGive g k i) (scoreOf g values facto
 
 -- output o may be given and has this score, or may not
 module _ (g : Game) (values : List ℕ) (factor k i o : ℕ) where
-  pub score-found : {to score : ℕ} → to ≡ getD (g .cells) (cellAt (g .inputs) (g .outputs) k i o) 0
-      → score ≡ scoreAt (g .gains) (g .bonuses) values factor to (i + g .inputs * o) → score ≡ scoreOf g values factor k i o
-  unfolding scoreAt scoreOf earns nextOf
+  pub score-found : {to score : ℕ} → to ≡ getD (g .cells) (cellAt (g .ins) (g .outs) k i o) 0
+      → score ≡ scoreIn (g .gains) (g .bonuses) values factor to (i + g .ins * o) → score ≡ scoreOf g values factor k i o
+  unfolding scoreIn scoreOf earns cellNext
   score-found e f = f ∙ rw e
 
-  pub best-more : {best to score best' : ℕ} → leadsIn (g .cells) (g .dropped) (cellAt (g .inputs) (g .outputs) k i o) ≡ true
-      → to ≡ getD (g .cells) (cellAt (g .inputs) (g .outputs) k i o) 0
-      → score ≡ scoreAt (g .gains) (g .bonuses) values factor to (i + g .inputs * o)
+  pub best-more : {best to score best' : ℕ} → leadsIn (g .cells) (g .dropped) (cellAt (g .ins) (g .outs) k i o) ≡ true
+      → to ≡ getD (g .cells) (cellAt (g .ins) (g .outs) k i o) 0
+      → score ≡ scoreIn (g .gains) (g .bonuses) values factor to (i + g .ins * o)
       → best ≡ bestBefore g values factor k i o → best' ≡ max best score → best' ≡ bestBefore g values factor k i (o + 1)
   unfolding mayGive
   best-more may e f b m = m ∙ rw (b, score-found e f, top-more, may)
 
-  pub best-same : {best best' : ℕ} → leadsIn (g .cells) (g .dropped) (cellAt (g .inputs) (g .outputs) k i o) ≡ false
+  pub best-same : {best best' : ℕ} → leadsIn (g .cells) (g .dropped) (cellAt (g .ins) (g .outs) k i o) ≡ false
       → best ≡ bestBefore g values factor k i o → best' ≡ best → best' ≡ bestBefore g values factor k i (o + 1)
   unfolding mayGive
   best-same may b m = m ∙ rw (b, top-more, may)
@@ -56,7 +56,7 @@ abbrev pub summed : Game → List ℕ → ℕ → ℕ → ℕ → ℕ
 summed g values factor k i = sum i (λ j. bestOf g values factor k j)
 
 module _ {g : Game} {values : List ℕ} {factor k : ℕ} (ready : Ready g values factor k) where
-  summed-most : (i : ℕ) → i ≤ g .inputs → summed g values factor k i ≤ 16 * 2 ^ 41
+  summed-most : (i : ℕ) → i ≤ g .ins → summed g values factor k i ≤ 16 * 2 ^ 41
   summed-most i h =
       let v = ready .valued in
       let most : (j : ℕ) → j < i → bestOf g values factor k j ≤ 2 ^ 41 = λ j l.
@@ -67,7 +67,7 @@ module _ {g : Game} {values : List ℕ} {factor k : ℕ} (ready : Ready g values
       ) in
       omega (arith, sum-most i (2 ^ 41) _ most, ready .sized .inputs-most)
 
-  pub summed-more : {i s best : ℕ} → i < g .inputs → s ≡ summed g values factor k i → best ≡ bestOf g values factor k i
+  pub summed-more : {i s best : ℕ} → i < g .ins → s ≡ summed g values factor k i → best ≡ bestOf g values factor k i
       → (s + best ≡ summed g values factor k (i + 1)) × (s + best ≤ 16 * 2 ^ 41)
   summed-more {i} {s} {best} h e f =
       let more : s + best ≡ summed g values factor k (i + 1) = rw (e, f, sum-more) in
@@ -78,6 +78,6 @@ unfolding worth
 worth-lost g values factor k e = rw e
 
 pub worth-kept : (g : Game) (values : List ℕ) (factor k : ℕ) {s : ℕ} → isIn (g .dropped) k ≡ true
-    → s ≡ summed g values factor k (g .inputs) → s ≡ worth g values factor k
+    → s ≡ summed g values factor k (g .ins) → s ≡ worth g values factor k
 unfolding worth
 worth-kept g values factor k e f = f ∙ rw e

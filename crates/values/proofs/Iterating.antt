@@ -9,7 +9,7 @@ use native.Mathlib.Omega.{arith}
 use lib.ListN.{length, getD}
 use Rattle.records.specs.Model.Lists.{put}
 use Rattle.records.specs.Laws.Lists.{put-put, put-ext, length-put, getD-put-front}
-use Rattle.values.specs.Model.Values.{Game, Sized, worth, valueRow}
+use Rattle.values.specs.Model.Values.{Game, SizedGame, worth, valueRow}
 use Rattle.values.specs.Model.Sizes.{Valued}
 use Rattle.values.specs.Laws.Growth.{row-none, row-more, length-row, row-over, row-valued, words-mono}
 
@@ -19,16 +19,16 @@ pub record Iterated
   where
     pub within : p ≤ horizon
     pub row : values ≡ valueRow g n memory p
-    pub words : factor ≡ g .inputs ^ p
+    pub words : factor ≡ g .ins ^ p
     pub room : length next ≡ length spare
 
 -- what the loop relies on
 pub record Fits (g : Game) (n horizon : ℕ) (memory spare : List ℕ) : Type 0 where
-  pub sized : Sized g n
+  pub sized : SizedGame g n
   pub rows : n ≤ length memory
   pub spares : n ≤ length spare
   pub steps : horizon ≤ 24
-  pub few : g .inputs ^ horizon ≤ 2 ^ 24
+  pub few : g .ins ^ horizon ≤ 2 ^ 24
 
 -- the row for no steps, whatever stood there
 cleared-rows : (g : Game) (n : ℕ) (memory : List ℕ) (p : ℕ) → valueRow g n (put memory n (λ k. 0)) p ≡ valueRow g n memory p
@@ -42,7 +42,7 @@ begin g n horizon entry spare e =
     record {
       within = omega arith;
       row = e ∙ sym (put-put entry n (λ k. 0) (λ k. 0)) ∙ ap (λ (m : List ℕ). put m n (λ k. 0)) (sym e) ∙ sym (row-none g n _);
-      words = sym (pow-zero (g .inputs));
+      words = sym (pow-zero (g .ins));
       room = refl;
     }
 
@@ -60,17 +60,17 @@ module _
         (words-mono g (fits .sized) (r .within) (fits .few)))
 
     -- a factor more is one of the numbers of words up to the horizon
-    pub words-more : p < horizon → factor * g .inputs ≡ g .inputs ^ (p + 1)
-    words-more h = rw (r .words, add-one) (sym (pow-suc (g .inputs) p))
+    pub words-more : p < horizon → factor * g .ins ≡ g .ins ^ (p + 1)
+    words-more h = rw (r .words, add-one) (sym (pow-suc (g .ins) p))
 
-    pub words-most : p < horizon → factor * g .inputs ≤ 2 ^ 24
+    pub words-most : p < horizon → factor * g .ins ≤ 2 ^ 24
     words-most h = rw (words-more h) (words-mono g (fits .sized) {p = p + 1} (omega arith) (fits .few))
 
     pub more : {next' values' : List ℕ} → p < horizon
         → next' ≡ put next n (worth g values factor) → values' ≡ put values n (λ k. getD next' k 0)
-        → Iterated g n horizon memory spare values' next' (factor * g .inputs) (p + 1)
+        → Iterated g n horizon memory spare values' next' (factor * g .ins) (p + 1)
     more {next'} {values'} h e f =
-        let each : (k : ℕ) → k < n → getD next' k 0 ≡ worth g (valueRow g n memory p) (g .inputs ^ p) k = λ k l.
+        let each : (k : ℕ) → k < n → getD next' k 0 ≡ worth g (valueRow g n memory p) (g .ins ^ p) k = λ k l.
         rw (e, ← r .row, ← r .words) (getD-put-front next n _ k 0 l (omega (arith, r .room, fits .spares))) in
         record {
           within = omega arith;
@@ -81,7 +81,7 @@ module _
 
     -- the row for the horizon, of what stood in memory before it was cleared
     pub end : (entry : List ℕ) → memory ≡ put entry n (λ k. 0) → horizon ≤ p
-        → (values ≡ valueRow g n entry horizon) × (factor ≡ g .inputs ^ horizon)
+        → (values ≡ valueRow g n entry horizon) × (factor ≡ g .ins ^ horizon)
     end entry e h =
         let last : p ≡ horizon = omega (arith, r .within) in (
           r .row ∙ rw (last, e) (cleared-rows g n entry horizon),

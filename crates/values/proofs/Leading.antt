@@ -7,14 +7,14 @@ use mathlib.Core.Option.{Option, none, some, Option·getD}
 use Prim.Native.Nat.{ℕ, _+_, _*_, _≤_, _<_}
 use native.Mathlib.Omega.{arith}
 use lib.ListN.{getD}
-use Rattle.rounds.specs.Model.Rounds.{cellAt, leadsIn}
+use Rattle.rounds.specs.Model.TableRounds.{cellAt, leadsIn}
 use Rattle.game.specs.Model.Choice.{leader, choose}
 use Rattle.game.specs.Laws.Choice.{leader-none, leader-more}
 use Rattle.values.specs.Model.Rank.{rank, rankBy}
 use Rattle.values.specs.Model.Values.{Game, mayGive, scoreOf, choiceOf}
-use Rattle.values.specs.Model.Sizes.{scoreAt}
+use Rattle.values.specs.Model.Sizes.{scoreIn}
 use Rattle.values.specs.Model.Leaders.{literalsOf, noLeader, challenged, leaderOf}
-use Rattle.values.specs.Laws.Leaders.{rank-literals, leader-output, leader-against}
+use Rattle.values.proofs.Leaders.{rank-literals, leader-output, leader-against}
 use Rattle.values.specs.Laws.Choices.{leader-low}
 use Rattle.values.specs.declared.choice.Leader.{Leader}
 use Rattle.values.proofs.Best.{score-found}
@@ -33,9 +33,9 @@ module _ (g : Game) (literals : List ℕ) (count : ℕ) (values : List ℕ) (fac
 
   module _ (o : ℕ) where
     pub lead-more : {lead lead' : Leader} {to score r : ℕ}
-        → leadsIn (g .cells) (g .dropped) (cellAt (g .inputs) (g .outputs) k i o) ≡ true
-        → to ≡ getD (g .cells) (cellAt (g .inputs) (g .outputs) k i o) 0
-        → score ≡ scoreAt (g .gains) (g .bonuses) values factor to (i + g .inputs * o)
+        → leadsIn (g .cells) (g .dropped) (cellAt (g .ins) (g .outs) k i o) ≡ true
+        → to ≡ getD (g .cells) (cellAt (g .ins) (g .outs) k i o) 0
+        → score ≡ scoreIn (g .gains) (g .bonuses) values factor to (i + g .ins * o)
         → r ≡ rankBy literals count o
         → lead ≡ leading o → lead' ≡ challenged lead o score r → lead' ≡ leading (o + 1)
     unfolding mayGive
@@ -45,7 +45,7 @@ module _ (g : Game) (literals : List ℕ) (count : ℕ) (values : List ℕ) (fac
         (leader-against (scoreOf g values factor k i) (rank (literalsOf literals count)) (found o) o)
 
     pub lead-same : {lead lead' : Leader}
-        → leadsIn (g .cells) (g .dropped) (cellAt (g .inputs) (g .outputs) k i o) ≡ false
+        → leadsIn (g .cells) (g .dropped) (cellAt (g .ins) (g .outs) k i o) ≡ false
         → lead ≡ leading o → lead' ≡ lead → lead' ≡ leading (o + 1)
     unfolding mayGive
     lead-same may l m = m ∙ rw (l, leader-more, may)
@@ -56,7 +56,7 @@ module _ (g : Game) (literals : List ℕ) (count : ℕ) (values : List ℕ) (fac
         rw (e, leader-output)
         (omega (arith, leader-low (mayGive g k i) (scoreOf g values factor k i) (rank (literalsOf literals count)) o))
 
-    pub lead-end : {lead : Leader} → o ≡ g .outputs → lead ≡ leading o
+    pub lead-end : {lead : Leader} → o ≡ g .outs → lead ≡ leading o
         → lead .output ≡ choiceOf g (literalsOf literals count) values factor k i
     unfolding choiceOf choose
     lead-end q e = rw (e, leader-output, q)

@@ -2,3 +2,4 @@
 pub mod Best
 pub mod Iterating
 pub mod Leading
+pub mod Leaders

@@ -1,7 +1,6 @@
 -- Theorems that other crates and the sources cite.
-pub mod Numbered
+pub mod GuardNumbering
 pub mod Sizes
-pub mod Leaders
 pub mod Choices
 pub mod Growth
 pub mod Ranks

@@ -1,7 +1,7 @@
 -- Definitions that go the way the code goes.
 pub mod Rank
 pub mod Values
-pub mod Guard
-pub mod Numbered
+pub mod GuardStates
+pub mod GuardNumbering
 pub mod Sizes
 pub mod Leaders

@@ -6,7 +6,7 @@ use crate::values::score_of;
 ghost use mathlib.Core.Path.{_≡_};
 ghost use Prim.Native.Nat.{_*_, _≤_, _<_};
 ghost use lib.ListN.{length};
-ghost use Rattle.values.specs.Model.Values.{Sized, choiceOf, choices};
+ghost use Rattle.values.specs.Model.Values.{SizedGame, choiceOf, choices};
 ghost use Rattle.values.specs.Model.Sizes.{gameOf, Valued, Ready};
 ghost use Rattle.values.specs.Model.Leaders.{goesBefore, noLeader, challenged, literalsOf};
 
@@ -69,8 +69,8 @@ pub fn choose_output(
     dropped: &[u16],
     gains: &[u16],
     bonuses: &[u16],
-    inputs: usize,
-    outputs: usize,
+    ins: usize,
+    outs: usize,
     literals: [u8; 3],
     count: usize,
     values: &[u64],
@@ -78,16 +78,16 @@ pub fn choose_output(
     k: usize,
     i: usize,
 ) -> u8
-    requires { ⌜ Ready (gameOf (now cells) (now dropped) (now gains) (now bonuses) inputs outputs) (now values) factor k ⌝ }
-    requires { ⌜ (i < inputs) × (count ≤ 3) ⌝ }
-    ensures { λ r. ⌜ r ≡ choiceOf (gameOf (now (cells .entry)) (now (dropped .entry)) (now (gains .entry)) (now (bonuses .entry)) inputs outputs) (literalsOf literals count) (now (values .entry)) factor k i ⌝ }
+    requires { ⌜ Ready (gameOf (now cells) (now dropped) (now gains) (now bonuses) ins outs) (now values) factor k ⌝ }
+    requires { ⌜ (i < ins) × (count ≤ 3) ⌝ }
+    ensures { λ r. ⌜ r ≡ choiceOf (gameOf (now (cells .entry)) (now (dropped .entry)) (now (gains .entry)) (now (bonuses .entry)) ins outs) (literalsOf literals count) (now (values .entry)) factor k i ⌝ }
 {
     let mut leader = Leader::none();
     let mut o: usize = 0;
-    while o < outputs {
-        if may_give(cells, dropped, inputs, outputs, k, i, o) {
-            let to = next_of(cells, inputs, outputs, k, i, o);
-            let score = score_of(gains, bonuses, values, factor, to, i + inputs * o);
+    while o < outs {
+        if may_give(cells, dropped, ins, outs, k, i, o) {
+            let to = next_of(cells, ins, outs, k, i, o);
+            let score = score_of(gains, bonuses, values, factor, to, i + ins * o);
             let rank = rank_of(literals, count, o);
             let ahead = leader.against(o, score, rank);
             leader = ahead;
@@ -103,8 +103,8 @@ pub fn fill_choices(
     dropped: &[u16],
     gains: &[u16],
     bonuses: &[u16],
-    inputs: usize,
-    outputs: usize,
+    ins: usize,
+    outs: usize,
     n: usize,
     literals: [u8; 3],
     count: usize,
@@ -112,26 +112,26 @@ pub fn fill_choices(
     factor: u64,
     chosen: &mut [u8],
 )
-    requires { ⌜ Sized (gameOf (now cells) (now dropped) (now gains) (now bonuses) inputs outputs) n ⌝ }
+    requires { ⌜ SizedGame (gameOf (now cells) (now dropped) (now gains) (now bonuses) ins outs) n ⌝ }
     requires { ⌜ Valued n (now values) factor ⌝ }
-    requires { ⌜ (count ≤ 3) × (n * inputs ≤ length (now chosen)) ⌝ }
-    ensures { λ _. ⌜ now (chosen .exit) ≡ choices (gameOf (now (cells .entry)) (now (dropped .entry)) (now (gains .entry)) (now (bonuses .entry)) inputs outputs) n (literalsOf literals count) (now (values .entry)) factor (now (chosen .entry)) ⌝ }
+    requires { ⌜ (count ≤ 3) × (n * ins ≤ length (now chosen)) ⌝ }
+    ensures { λ _. ⌜ now (chosen .exit) ≡ choices (gameOf (now (cells .entry)) (now (dropped .entry)) (now (gains .entry)) (now (bonuses .entry)) ins outs) n (literalsOf literals count) (now (values .entry)) factor (now (chosen .entry)) ⌝ }
 {
     let mut at: usize = 0;
-    while at < n * inputs {
+    while at < n * ins {
         chosen[at] = choose_output(
             cells,
             dropped,
             gains,
             bonuses,
-            inputs,
-            outputs,
+            ins,
+            outs,
             literals,
             count,
             values,
             factor,
-            at / inputs,
-            at % inputs,
+            at / ins,
+            at % ins,
         );
         at += 1;
     }

@@ -2,12 +2,12 @@
 use records::numbers::pow2;
 ghost use mathlib.Core.Path.{_≡_};
 ghost use Prim.Native.Nat.{_≤_};
-ghost use Rattle.values.specs.Meaning.Order.{holds};
+ghost use Rattle.values.specs.Meaning.Order.{literalHolds};
 ghost use Rattle.values.specs.Model.Rank.{rankBy};
 
 // Whether a literal holds of an output: whether its line is as preferred.
-pub fn holds(literal: u8, o: usize) -> bool
-    ensures { λ r. ⌜ r ≡ holds literal o ⌝ }
+pub fn literal_holds(literal: u8, o: usize) -> bool
+    ensures { λ r. ⌜ r ≡ literalHolds literal o ⌝ }
 {
     let line = o / pow2(literal % 8) % 2;
     if literal < 8 {
@@ -25,7 +25,7 @@ pub fn rank_of(literals: [u8; 3], count: usize, o: usize) -> usize
     let mut j: usize = 0;
     while j < count {
         rank *= 2;
-        if holds(literals[j], o) {
+        if literal_holds(literals[j], o) {
             rank += 1;
         }
         j += 1;

@@ -9,35 +9,35 @@ ghost use mathlib.Core.Path.{_≡_};
 ghost use Prim.Native.Nat.{_+_, _*_, _^_, _≤_, _<_, max};
 ghost use lib.ListN.{length, getD};
 ghost use Rattle.records.specs.Model.Lists.{put};
-ghost use Rattle.rounds.specs.Model.Rounds.{cellAt, leadsIn};
-ghost use Rattle.rounds.specs.Laws.Cells.{InRow, Leads};
-ghost use Rattle.values.specs.Model.Values.{Sized, worth, valueRow};
-ghost use Rattle.values.specs.Model.Sizes.{gameOf, Valued, Ready, scoreAt, Scored, bestOf};
+ghost use Rattle.rounds.specs.Model.TableRounds.{cellAt, leadsIn};
+ghost use Rattle.rounds.specs.Laws.CellPlaces.{InRow, CellLeads};
+ghost use Rattle.values.specs.Model.Values.{SizedGame, worth, valueRow};
+ghost use Rattle.values.specs.Model.Sizes.{gameOf, Valued, Ready, scoreIn, Scored, bestOf};
 
 // Whether an output may be given: its step is unbroken and ends in a kept state.
 pub fn may_give(
     cells: &[u16],
     dropped: &[u16],
-    inputs: usize,
-    outputs: usize,
+    ins: usize,
+    outs: usize,
     k: usize,
     i: usize,
     o: usize,
 ) -> bool
-    requires { ⌜ InRow inputs outputs k i o ⌝ }
-    requires { ⌜ Leads (now cells) (now dropped) (cellAt inputs outputs k i o) ⌝ }
-    ensures { λ r. ⌜ r ≡ leadsIn (now (cells .entry)) (now (dropped .entry)) (cellAt inputs outputs k i o) ⌝ }
+    requires { ⌜ InRow ins outs k i o ⌝ }
+    requires { ⌜ CellLeads (now cells) (now dropped) (cellAt ins outs k i o) ⌝ }
+    ensures { λ r. ⌜ r ≡ leadsIn (now (cells .entry)) (now (dropped .entry)) (cellAt ins outs k i o) ⌝ }
 {
-    leads_to_kept(cells, dropped, cell_at(inputs, outputs, k, i, o))
+    leads_to_kept(cells, dropped, cell_at(ins, outs, k, i, o))
 }
 
 // The state after a step.
-pub fn next_of(cells: &[u16], inputs: usize, outputs: usize, k: usize, i: usize, o: usize) -> usize
-    requires { ⌜ InRow inputs outputs k i o ⌝ }
-    requires { ⌜ cellAt inputs outputs k i o < length (now cells) ⌝ }
-    ensures { λ r. ⌜ r ≡ getD (now (cells .entry)) (cellAt inputs outputs k i o) 0 ⌝ }
+pub fn next_of(cells: &[u16], ins: usize, outs: usize, k: usize, i: usize, o: usize) -> usize
+    requires { ⌜ InRow ins outs k i o ⌝ }
+    requires { ⌜ cellAt ins outs k i o < length (now cells) ⌝ }
+    ensures { λ r. ⌜ r ≡ getD (now (cells .entry)) (cellAt ins outs k i o) 0 ⌝ }
 {
-    cells[cell_at(inputs, outputs, k, i, o)] as usize
+    cells[cell_at(ins, outs, k, i, o)] as usize
 }
 
 // The score of a step to the state `to` by a letter: what it earns along every word to come, and what follows.
@@ -50,7 +50,7 @@ pub fn score_of(
     letter: usize,
 ) -> u64
     requires { ⌜ Scored (now gains) (now bonuses) (now values) factor to letter ⌝ }
-    ensures { λ r. ⌜ r ≡ scoreAt (now (gains .entry)) (now (bonuses .entry)) (now (values .entry)) factor to letter ⌝ }
+    ensures { λ r. ⌜ r ≡ scoreIn (now (gains .entry)) (now (bonuses .entry)) (now (values .entry)) factor to letter ⌝ }
 {
     let earned = (gains[to] as u64) + (bonuses[letter] as u64);
     earned * factor + values[to]
@@ -72,25 +72,25 @@ pub fn best_score(
     dropped: &[u16],
     gains: &[u16],
     bonuses: &[u16],
-    inputs: usize,
-    outputs: usize,
+    ins: usize,
+    outs: usize,
     values: &[u64],
     factor: u64,
     k: usize,
     i: usize,
 ) -> u64
-    requires { ⌜ Ready (gameOf (now cells) (now dropped) (now gains) (now bonuses) inputs outputs) (now values) factor k ⌝ }
-    requires { ⌜ i < inputs ⌝ }
-    ensures { λ r. ⌜ r ≡ bestOf (gameOf (now (cells .entry)) (now (dropped .entry)) (now (gains .entry)) (now (bonuses .entry)) inputs outputs) (now (values .entry)) factor k i ⌝ }
+    requires { ⌜ Ready (gameOf (now cells) (now dropped) (now gains) (now bonuses) ins outs) (now values) factor k ⌝ }
+    requires { ⌜ i < ins ⌝ }
+    ensures { λ r. ⌜ r ≡ bestOf (gameOf (now (cells .entry)) (now (dropped .entry)) (now (gains .entry)) (now (bonuses .entry)) ins outs) (now (values .entry)) factor k i ⌝ }
 {
     let mut best: u64 = 0;
     let mut o: usize = 0;
-    while o < outputs {
-        if may_give(cells, dropped, inputs, outputs, k, i, o) {
-            let to = next_of(cells, inputs, outputs, k, i, o);
+    while o < outs {
+        if may_give(cells, dropped, ins, outs, k, i, o) {
+            let to = next_of(cells, ins, outs, k, i, o);
             best = larger(
                 best,
-                score_of(gains, bonuses, values, factor, to, i + inputs * o),
+                score_of(gains, bonuses, values, factor, to, i + ins * o),
             );
         }
         o += 1;
@@ -104,28 +104,28 @@ pub fn worth_of(
     dropped: &[u16],
     gains: &[u16],
     bonuses: &[u16],
-    inputs: usize,
-    outputs: usize,
+    ins: usize,
+    outs: usize,
     values: &[u64],
     factor: u64,
     k: usize,
 ) -> u64
-    requires { ⌜ Ready (gameOf (now cells) (now dropped) (now gains) (now bonuses) inputs outputs) (now values) factor k ⌝ }
-    ensures { λ r. ⌜ r ≡ worth (gameOf (now (cells .entry)) (now (dropped .entry)) (now (gains .entry)) (now (bonuses .entry)) inputs outputs) (now (values .entry)) factor k ⌝ }
+    requires { ⌜ Ready (gameOf (now cells) (now dropped) (now gains) (now bonuses) ins outs) (now values) factor k ⌝ }
+    ensures { λ r. ⌜ r ≡ worth (gameOf (now (cells .entry)) (now (dropped .entry)) (now (gains .entry)) (now (bonuses .entry)) ins outs) (now (values .entry)) factor k ⌝ }
 {
     if !is_kept(dropped, k) {
         return 0;
     }
     let mut sum: u64 = 0;
     let mut i: usize = 0;
-    while i < inputs {
+    while i < ins {
         sum += best_score(
             cells,
             dropped,
             gains,
             bonuses,
-            inputs,
-            outputs,
+            ins,
+            outs,
             values,
             factor,
             k,
@@ -142,31 +142,21 @@ pub fn value_round(
     dropped: &[u16],
     gains: &[u16],
     bonuses: &[u16],
-    inputs: usize,
-    outputs: usize,
+    ins: usize,
+    outs: usize,
     n: usize,
     values: &[u64],
     next: &mut [u64],
     factor: u64,
 )
-    requires { ⌜ Sized (gameOf (now cells) (now dropped) (now gains) (now bonuses) inputs outputs) n ⌝ }
+    requires { ⌜ SizedGame (gameOf (now cells) (now dropped) (now gains) (now bonuses) ins outs) n ⌝ }
     requires { ⌜ Valued n (now values) factor ⌝ }
     requires { ⌜ n ≤ length (now next) ⌝ }
-    ensures { λ _. ⌜ now (next .exit) ≡ put (now (next .entry)) n (worth (gameOf (now (cells .entry)) (now (dropped .entry)) (now (gains .entry)) (now (bonuses .entry)) inputs outputs) (now (values .entry)) factor) ⌝ }
+    ensures { λ _. ⌜ now (next .exit) ≡ put (now (next .entry)) n (worth (gameOf (now (cells .entry)) (now (dropped .entry)) (now (gains .entry)) (now (bonuses .entry)) ins outs) (now (values .entry)) factor) ⌝ }
 {
     let mut k: usize = 0;
     while k < n {
-        next[k] = worth_of(
-            cells,
-            dropped,
-            gains,
-            bonuses,
-            inputs,
-            outputs,
-            values,
-            factor,
-            k,
-        );
+        next[k] = worth_of(cells, dropped, gains, bonuses, ins, outs, values, factor, k);
         k += 1;
     }
 }
@@ -189,18 +179,18 @@ pub fn value_rows(
     dropped: &[u16],
     gains: &[u16],
     bonuses: &[u16],
-    inputs: usize,
-    outputs: usize,
+    ins: usize,
+    outs: usize,
     n: usize,
     values: &mut [u64],
     next: &mut [u64],
     horizon: u8,
 ) -> u64
-    requires { ⌜ Sized (gameOf (now cells) (now dropped) (now gains) (now bonuses) inputs outputs) n ⌝ }
+    requires { ⌜ SizedGame (gameOf (now cells) (now dropped) (now gains) (now bonuses) ins outs) n ⌝ }
     requires { ⌜ (n ≤ length (now values)) × (n ≤ length (now next)) ⌝ }
-    requires { ⌜ (horizon ≤ 24) × (inputs ^ horizon ≤ 2 ^ 24) ⌝ }
-    ensures row { λ _. ⌜ now (values .exit) ≡ valueRow (gameOf (now (cells .entry)) (now (dropped .entry)) (now (gains .entry)) (now (bonuses .entry)) inputs outputs) n (now (values .entry)) horizon ⌝ }
-    ensures words { λ r. ⌜ r ≡ inputs ^ horizon ⌝ }
+    requires { ⌜ (horizon ≤ 24) × (ins ^ horizon ≤ 2 ^ 24) ⌝ }
+    ensures row { λ _. ⌜ now (values .exit) ≡ valueRow (gameOf (now (cells .entry)) (now (dropped .entry)) (now (gains .entry)) (now (bonuses .entry)) ins outs) n (now (values .entry)) horizon ⌝ }
+    ensures words { λ r. ⌜ r ≡ ins ^ horizon ⌝ }
 {
     clear_front64(values, n);
     let mut factor: u64 = 1;
@@ -211,15 +201,15 @@ pub fn value_rows(
             dropped,
             gains,
             bonuses,
-            inputs,
-            outputs,
+            ins,
+            outs,
             n,
             values,
             next,
             factor,
         );
         copy_row(values, next, n);
-        factor *= inputs as u64;
+        factor *= ins as u64;
         p += 1;
     }
     factor

@@ -18,11 +18,11 @@ use Rattle.game.specs.Meaning.Proposal.{proposal, deviates}
 use Rattle.game.specs.Meaning.Book.{Call, load, step, rewind, unload}
 use Rattle.board.specs.Meaning.Board.{live, emptyBoard, runAt, rewindOn, unloadOn}
 use Rattle.guard_table.specs.Meaning.Loadable.{entryOk, loadable}
-use Rattle.guard_table.specs.Laws.Facts.{loadable-head, loadable-entry}
+use Rattle.guard_table.specs.Laws.LoadableFacts.{loadable-head, loadable-entry}
 use Rattle.board.specs.Meaning.Load.{boardOf, loadOn}
-use Rattle.board.specs.Meaning.Step.{entryFits, moved, lookedUp, stepOn, stepNumber, stepRefusal}
-use Rattle.board.specs.Meaning.Calls.{after}
-use Rattle.board.specs.Laws.Facts.{live-facts, facts-live}
+use Rattle.board.specs.Meaning.BoardStep.{entryFits, boardMoved, lookedUp, stepOn, stepNumber, stepRefusal}
+use Rattle.board.specs.Meaning.Calls.{boardAfter}
+use Rattle.board.specs.Laws.LiveFacts.{live-facts, facts-live}
 use Rattle.board.specs.declared.Board.{Board}
 use Rattle.board.specs.declared.answers.Load.{Load}
 use Rattle.board.specs.declared.answers.Loading.{Loading}
@@ -65,7 +65,7 @@ module _ (b : Board) (e : live b ≡ false) where
 -- ---- a loaded table
 
 -- the board has the mode, lines and count of the table's head
-pub record Shows (b : Board) (t : List ℕ) : Type 0 where
+pub record ShowsHead (b : Board) (t : List ℕ) : Type 0 where
   pub mode : b .mode ≡ getD t 4 0
   pub inputs : b .inputs ≡ getD t 5 0
   pub outputs : b .outputs ≡ getD t 6 0
@@ -89,7 +89,7 @@ loaded-live t l =
     })
 
 -- it shows the table's head, with place, steps and deviations 0
-pub loaded-shows : (t : List ℕ) → Shows (boardOf t) t
+pub loaded-shows : (t : List ℕ) → ShowsHead (boardOf t) t
 unfolding boardOf
 loaded-shows t = record { mode = refl; inputs = refl; outputs = refl; count = refl }
 
@@ -98,12 +98,12 @@ unfolding boardOf runAt
 loaded-start t = refl
 
 -- a run at another point shows the same head
-pub run-shows : (b : Board) (t : List ℕ) (place steps deviations : ℕ) → Shows b t → Shows (runAt b place steps deviations) t
+pub run-shows : (b : Board) (t : List ℕ) (place steps deviations : ℕ) → ShowsHead b t → ShowsHead (runAt b place steps deviations) t
 unfolding runAt
 run-shows b t p s d h = record { mode = h .mode; inputs = h .inputs; outputs = h .outputs; count = h .count }
 
-pub moved-shows : (b : Board) (t : List ℕ) (input output next : ℕ) → Shows b t → Shows (moved b input output next .board) t
-unfolding moved
+pub moved-shows : (b : Board) (t : List ℕ) (input output next : ℕ) → ShowsHead b t → ShowsHead (boardMoved b input output next .board) t
+unfolding boardMoved
 moved-shows b t i o n h = run-shows b t _ _ _ h
 
 -- ---- a step
@@ -142,7 +142,7 @@ run-live b p s d e h k l m =
 -- what a step of a live board does: it is refused, with the same board, or it moves by the entry
 pub data StepCase (b : Board) (t : List ℕ) (i : ℕ) : Type 0 where
   refused : (a : Step) → eqb (stepNumber a) 0 ≡ false → stepOn b t i ≡ record { board = b; answer = a } → StepCase b t i
-  taken : b .steps < maxSteps → entryFits b t i ≡ true → stepOn b t i ≡ moved b i (outputIn t (b .inputs) (b .place) i) (nextIn t (b .inputs) (b .place) i) → StepCase b t i
+  taken : b .steps < maxSteps → entryFits b t i ≡ true → stepOn b t i ≡ boardMoved b i (outputIn t (b .inputs) (b .place) i) (nextIn t (b .inputs) (b .place) i) → StepCase b t i
 
 -- outside mode 1 nothing deviates
 never-deviates : (mode site input output : ℕ) → mode ≡ 0 → deviates mode site input output ≡ false
@@ -199,8 +199,8 @@ module _ (b : Board) (e : live b ≡ true) where
       (λ z. rw (c z) (omega (arith, f .controller z)))
 
   -- a step to a state of its table leaves it live
-  pub moved-live : (i o n : ℕ) → b .steps < maxSteps → n < b .count → live (moved b i o n .board) ≡ true
-  unfolding moved
+  pub moved-live : (i o n : ℕ) → b .steps < maxSteps → n < b .count → live (boardMoved b i o n .board) ≡ true
+  unfolding boardMoved
   moved-live i o n s h = on-live _ n s h (never-deviates _ _ _ _)
 
   -- every step, with any slice and input, leaves it live
@@ -212,7 +212,7 @@ module _ (b : Board) (e : live b ≡ true) where
       ]
 
   -- only unload empties it
-  pub stays-live : (c : Call (List ℕ)) → (c ≡ unload → ⊥) → live (after b c) ≡ true
+  pub stays-live : (c : Call (List ℕ)) → (c ≡ unload → ⊥) → live (boardAfter b c) ≡ true
   stays-live (load t) n = ap (λ (r : Loading). live (r .board)) (load-occupied t) ∙ e
   stays-live (step t i) n = step-live t i
   stays-live rewind n = ap (λ (r : Changing). live (r .board)) rewind-live ∙ rewound-live
@@ -229,7 +229,7 @@ module _ (b : Board) (e : live b ≡ true) where
   step-stranger t i h k = simp (e, lt-leb _ _ h, le-ltb _ _ k)
 
   -- ---- that holds a loadable table
-  module _ (t : List ℕ) (l : loadable t ≡ true) (s : Shows b t) (i : ℕ) where
+  module _ (t : List ℕ) (l : loadable t ≡ true) (s : ShowsHead b t) (i : ℕ) where
     entry-fits : i < 2 ^ b .inputs → entryFits b t i ≡ true
     unfolding entryFits
     entry-fits h = fits (b .inputs) (b .outputs) (b .count) (s .inputs) (s .outputs) (s .count) (live-facts b e .place) h
@@ -247,6 +247,6 @@ module _ (b : Board) (e : live b ≡ true) where
         by-test (ltb i (2 ^ b .inputs)) (λ q. simp (e, q, entry-fits (ltb-true _ _ q))) (λ q. simp (e, q))
 
     -- else it gives the entry's output and moves to its next state, one step on, with one deviation more iff it deviates
-    pub step-taken : b .steps < maxSteps → i < 2 ^ b .inputs → stepOn b t i ≡ moved b i (outputIn t (b .inputs) (b .place) i) (nextIn t (b .inputs) (b .place) i)
+    pub step-taken : b .steps < maxSteps → i < 2 ^ b .inputs → stepOn b t i ≡ boardMoved b i (outputIn t (b .inputs) (b .place) i) (nextIn t (b .inputs) (b .place) i)
     unfolding stepOn lookedUp
     step-taken h k = simp (e, lt-leb _ _ h, lt-ltb _ _ k, entry-fits k)

@@ -5,7 +5,7 @@ use Prim.Native.Nat.{ℕ}
 use Rattle.game.specs.Meaning.Book.{Call, load, step, rewind, unload, Answer}
 use Rattle.board.specs.Meaning.Board.{rewindOn, unloadOn, changeNumber}
 use Rattle.board.specs.Meaning.Load.{loadOn, loadNumber}
-use Rattle.board.specs.Meaning.Step.{stepOn, stepNumber, stepOutput}
+use Rattle.board.specs.Meaning.BoardStep.{stepOn, stepNumber, stepOutput}
 use Rattle.board.specs.declared.Board.{Board}
 use Rattle.board.specs.declared.answers.Loading.{Loading}
 use Rattle.board.specs.declared.answers.Stepping.{Stepping}
@@ -22,11 +22,11 @@ abbrev pub changeSays : Changing → Answer
 changeSays r = record { number = changeNumber (r .answer); output = 0 }
 
 -- the board that a call hands back, and what it answers
-abbrev pub after : Board → Call (List ℕ) → Board
-after b (load t) = loadOn b t .board
-after b (step t i) = stepOn b t i .board
-after b rewind = rewindOn b .board
-after b unload = unloadOn b .board
+abbrev pub boardAfter : Board → Call (List ℕ) → Board
+boardAfter b (load t) = loadOn b t .board
+boardAfter b (step t i) = stepOn b t i .board
+boardAfter b rewind = rewindOn b .board
+boardAfter b unload = unloadOn b .board
 
 abbrev pub says : Board → Call (List ℕ) → Answer
 says b (load t) = loadSays (loadOn b t)

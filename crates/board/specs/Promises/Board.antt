@@ -5,10 +5,10 @@ use mathlib.Core.List.{List}
 use Prim.Native.Nat.{ℕ}
 use Rattle.board.specs.Meaning.Board.{emptyBoard, rewindOn, unloadOn, changeNumber, changeRefusal}
 use Rattle.board.specs.Meaning.Load.{loadOn, loadNumber, loadRefusal}
-use Rattle.board.specs.Meaning.Step.{stepOn, stepNumber, stepOutput, stepRefusal, stepGiven}
+use Rattle.board.specs.Meaning.BoardStep.{stepOn, stepNumber, stepOutput, stepRefusal, stepGiven}
 use Rattle.game.specs.Meaning.Book.{Call, load, step, rewind, unload}
 use Rattle.board.specs.Meaning.Calls.{loadSays, stepSays, changeSays}
-use Rattle.board.specs.Meaning.History.{last, history, Counts, KeepsCount}
+use Rattle.board.specs.Meaning.Deviations.{last, history, Counts, KeepsCount}
 use Rattle.board.specs.declared.Board.{Board}
 use Rattle.board.specs.declared.answers.Loading.{Loading}
 use Rattle.board.specs.declared.answers.Stepping.{Stepping}

@@ -14,40 +14,40 @@ use Rattle.guard_table.specs.Laws.GuardTable.{HeadReads, table-head}
 use Rattle.sheet.specs.Meaning.Decoded as decoded
 use Rattle.sheet.specs.Meaning.Decoded.{Decoded, HeadOk, inputLines}
 use Rattle.product.specs.Meaning.Step.{inputsOf}
-use Rattle.product.specs.Model.Numbered.{stateCount}
+use Rattle.product.specs.Model.ProductNumbering.{stateCount}
 use Rattle.game.specs.Meaning.Proposal.{deviates}
 use Rattle.game.specs.Meaning.History as history
 use Rattle.game.specs.Meaning.Book.{Call, load, step, rewind, unload, give, refuse, deviations}
 use Rattle.game.specs.Model.Machine.{RunsTable}
-use Rattle.rounds.specs.Model.Rounds.{isIn}
+use Rattle.rounds.specs.Model.TableRounds.{isIn}
 use Rattle.solve.specs.Model.Steps.{droppedOf}
 use Rattle.board.specs.Meaning.Board.{live, runAt, rewindOn, unloadOn}
 use Rattle.guard_table.specs.Meaning.Loadable.{loadable}
 use Rattle.board.specs.Meaning.Load.{boardOf, loadOn}
-use Rattle.board.specs.Meaning.Step.{moved, stepOn}
-use Rattle.board.specs.Meaning.Calls.{loadSays, stepSays, changeSays, after, says}
+use Rattle.board.specs.Meaning.BoardStep.{boardMoved, stepOn}
+use Rattle.board.specs.Meaning.Calls.{loadSays, stepSays, changeSays, boardAfter, says}
 use Rattle.board.specs.Laws.Calls as laws
-use Rattle.guard_table.specs.Laws.Guard.{guard-loadable}
-use Rattle.board.specs.Laws.Guard.{guard-step}
+use Rattle.guard_table.specs.Laws.MadeLoadable.{guard-loadable}
+use Rattle.board.specs.Laws.BoardOnTable.{guard-step}
 use Rattle.board.specs.declared.Board.{Board}
 use Rattle.board.specs.declared.answers.Loading.{Loading}
 use Rattle.board.specs.declared.answers.Stepping.{Stepping}
 use Rattle.board.specs.declared.answers.Changing.{Changing}
-use Rattle.guard.specs.Meaning.Guard.{Shows}
-use Rattle.plan.specs.Model.Table.{guardCount, outputOf, nextOf, guardOver}
+use Rattle.guard.specs.Meaning.Faithful.{Shows}
+use Rattle.plan.specs.Model.GuardOfSheet.{guardCount, outputOf, nextOf, guardOver}
 use Rattle.plan.specs.Laws.Reaching.{guard-some, guard-fits, next-low, output-low}
 
 -- ---- the head's bounds
 
 -- a shield's input lines are the site's and the outputs
 shield-lines : (d : Decoded) → d .mode ≡ 1 → inputLines d ≡ d .site + d .outputs
-unfolding decoded.inputsOf
+unfolding decoded.guardLines
 shield-lines d e = rw e
 
 -- the lines of a head in bounds are those of a table to load
-pub head-lines : (d : Decoded) → HeadOk d → linesOk (d .mode) (inputLines d) (d .outputs) ≡ true
+pub running-lines : (d : Decoded) → HeadOk d → linesOk (d .mode) (inputLines d) (d .outputs) ≡ true
 unfolding linesOk
-head-lines d ok =
+running-lines d ok =
     simp (
       le-leb (d .mode) 1 (ok .mode),
       le-leb (inputLines d) 4 (ok .inputs),
@@ -77,7 +77,7 @@ deviates-alike d i o =
 -- the board is loaded with the table, at place k, after n steps with e deviations
 pub record Stands (table : List ℕ) (b : Board) (k n e : ℕ) : Type 0 where
   pub live : live b ≡ true
-  pub shows : laws.Shows b table
+  pub shows : laws.ShowsHead b table
   pub place : b .place ≡ k
   pub steps : b .steps ≡ n
   pub deviated : b .deviations ≡ e
@@ -85,22 +85,22 @@ pub record Stands (table : List ℕ) (b : Board) (k n e : ℕ) : Type 0 where
 -- ---- what a call answers and hands back, from the board's result
 
 load-as : (b : Board) (t : List ℕ) (r : Loading) → loadOn b t ≡ r
-    → (says b (load t) ≡ loadSays r) × (after b (load t) ≡ r .board)
+    → (says b (load t) ≡ loadSays r) × (boardAfter b (load t) ≡ r .board)
 load-as b t r q = (ap loadSays q, ap (λ (x : Loading). x .board) q)
 
 step-as : (b : Board) (t : List ℕ) (i : ℕ) (r : Stepping) → stepOn b t i ≡ r
-    → (says b (step t i) ≡ stepSays r) × (after b (step t i) ≡ r .board)
+    → (says b (step t i) ≡ stepSays r) × (boardAfter b (step t i) ≡ r .board)
 step-as b t i r q = (ap stepSays q, ap (λ (x : Stepping). x .board) q)
 
-rewind-as : (b : Board) (r : Changing) → rewindOn b ≡ r → (says b rewind ≡ changeSays r) × (after b rewind ≡ r .board)
+rewind-as : (b : Board) (r : Changing) → rewindOn b ≡ r → (says b rewind ≡ changeSays r) × (boardAfter b rewind ≡ r .board)
 rewind-as b r q = (ap changeSays q, ap (λ (x : Changing). x .board) q)
 
-unload-as : (b : Board) (r : Changing) → unloadOn b ≡ r → (says b unload ≡ changeSays r) × (after b unload ≡ r .board)
+unload-as : (b : Board) (r : Changing) → unloadOn b ≡ r → (says b unload ≡ changeSays r) × (boardAfter b unload ≡ r .board)
 unload-as b r q = (ap changeSays q, ap (λ (x : Changing). x .board) q)
 
 -- a board that counts as empty refuses all but a load
 empties : (b : Board) → live b ≡ false → (c : Call (List ℕ)) → ((t : List ℕ) → c ≡ load t → ⊥)
-    → (says b c ≡ refuse 20) × (after b c ≡ b)
+    → (says b c ≡ refuse 20) × (boardAfter b c ≡ b)
 empties b e (load t) n = absurd (n t refl)
 empties b e (step t i) n = step-as b t i _ (laws.step-empty b e t i)
 empties b e rewind n = rewind-as b _ (laws.rewind-empty b e)
@@ -121,7 +121,7 @@ module _
     pub table-loads : loadable (guardOver d h) ≡ true
     unfolding guardOver
     table-loads =
-        guard-loadable (d .mode) (inputLines d) (d .outputs) h (guardCount d h) (outputOf d h) (nextOf d h) (head-lines d ok) far
+        guard-loadable (d .mode) (inputLines d) (d .outputs) h (guardCount d h) (outputOf d h) (nextOf d h) (running-lines d ok) far
         (guard-some d fits h) (omega (arith, guard-fits d fits h start)) (output-low d fits h start) (next-low d fits h start)
 
     -- with the sheet's head
@@ -148,7 +148,7 @@ module _
     abbrev deviated : ℕ → ℕ → ℕ → ℕ
     deviated e k i = e + cond (deviates (d .mode) (d .site) i (outputOf d h k i)) 1 0
 
-    loads : (b : Board) → live b ≡ false → (says b (load (guardOver d h)) ≡ give 0) × At (after b (load (guardOver d h))) 0 0 0
+    loads : (b : Board) → live b ≡ false → (says b (load (guardOver d h)) ≡ give 0) × At (boardAfter b (load (guardOver d h))) 0 0 0
     unfolding boardOf
     loads b e =
         let x = load-as b (guardOver d h) _ (laws.load-empty b e (guardOver d h) table-loads) in (
@@ -164,7 +164,7 @@ module _
         )
 
     module _ (b : Board) (k n e : ℕ) (s : At b k n e) where
-      rewinds : (says b rewind ≡ give 0) × At (after b rewind) 0 0 0
+      rewinds : (says b rewind ≡ give 0) × At (boardAfter b rewind) 0 0 0
       unfolding runAt
       rewinds =
           let q = laws.rewind-live b (s .live) in
@@ -181,7 +181,7 @@ module _
                 }),
           )
 
-      unloads : (says b unload ≡ give 0) × (live (after b unload) ≡ false)
+      unloads : (says b unload ≡ give 0) × (live (boardAfter b unload) ≡ false)
       unloads =
           let x = unload-as b _ (laws.unload-live b (s .live)) in (x .0, ap live (x .1) ∙ laws.empty-board)
 
@@ -189,25 +189,25 @@ module _
       lines-are = s .shows .inputs ∙ table-reads .inputs-is
 
       stranger : (i : ℕ) → n < maxSteps → inputsOf d ≤ i
-          → (says b (step (guardOver d h) i) ≡ refuse 12) × (after b (step (guardOver d h) i) ≡ b)
+          → (says b (step (guardOver d h) i) ≡ refuse 12) × (boardAfter b (step (guardOver d h) i) ≡ b)
       stranger i room l =
           step-as b (guardOver d h) i _
           (laws.step-stranger b (s .live) (guardOver d h) i (omega (arith, s .steps))
           (subst (λ (x : ℕ). 2 ^ x ≤ i) (sym lines-are) l))
 
       goes-by : (i : ℕ) → n < maxSteps → i < inputsOf d
-          → stepOn b (guardOver d h) i ≡ moved b i (outputOf d h k i) (nextOf d h k i)
+          → stepOn b (guardOver d h) i ≡ boardMoved b i (outputOf d h k i) (nextOf d h k i)
       unfolding guardOver
       goes-by i room l =
-          subst (λ (p : ℕ). stepOn b (guardOver d h) i ≡ moved b i (outputOf d h p i) (nextOf d h p i)) (s .place)
-          (guard-step (d .mode) (inputLines d) (d .outputs) h (guardCount d h) (outputOf d h) (nextOf d h) (head-lines d ok) far
+          subst (λ (p : ℕ). stepOn b (guardOver d h) i ≡ boardMoved b i (outputOf d h p i) (nextOf d h p i)) (s .place)
+          (guard-step (d .mode) (inputLines d) (d .outputs) h (guardCount d h) (outputOf d h) (nextOf d h) (running-lines d ok) far
           (guard-some d fits h) (omega (arith, guard-fits d fits h start)) (output-low d fits h start) (next-low d fits h start)
           b (s .live) (s .shows) (omega (arith, s .steps)) i l)
 
       steps : (i : ℕ) → k < guardCount d h → n < maxSteps → i < inputsOf d
           → (says b (step (guardOver d h) i) ≡ give (outputOf d h k i))
-          × At (after b (step (guardOver d h) i)) (nextOf d h k i) (n + 1) (deviated e k i)
-      unfolding moved runAt
+          × At (boardAfter b (step (guardOver d h) i)) (nextOf d h k i) (n + 1) (deviated e k i)
+      unfolding boardMoved runAt
       steps i low room l =
           let q = goes-by i room l in
           let x = step-as b (guardOver d h) i _ q in (
@@ -224,7 +224,7 @@ module _
           )
 
     -- the board runs it
-    pub runs : RunsTable (List ℕ) Board after says (guardOver d h) (guardCount d h) (inputsOf d) maxSteps (d .mode) (d .site)
+    pub runs : RunsTable (List ℕ) Board boardAfter says (guardOver d h) (guardCount d h) (inputsOf d) maxSteps (d .mode) (d .site)
         (outputOf d h) (nextOf d h) (λ b. live b ≡ false) (Stands (guardOver d h))
     runs =
         record {

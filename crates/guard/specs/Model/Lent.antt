@@ -1,8 +1,8 @@
 -- That each length of the work memory that was lent is long enough.
 -- Assumes nothing.
 use Prim.Native.Nat.{_≤_}
-use Rattle.supervisor.specs.Promises.Supervisor.{tuplesLength, cellsLength, droppedLength}
-use Rattle.guard.specs.Promises.Guard.{gainsLength, bonusesLength, valuesLength, choicesLength, orderLength, Work}
+use Rattle.supervisor.specs.Promises.SupervisorMaker.{tuplesLength, cellsLength, droppedLength}
+use Rattle.guard.specs.Promises.GuardMaker.{gainsLength, bonusesLength, valuesLength, choicesLength, orderLength, Work}
 
 -- each is long enough
 pub record Long (w : Work) : Type 0 where

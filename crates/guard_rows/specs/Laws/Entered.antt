@@ -8,9 +8,9 @@ use lib.Dec.{eqb}
 use lib.ListN.{length, getD}
 use Rattle.game.specs.Model.Numbering.{there, find}
 use Rattle.values.specs.Model.Values.{Game}
-use Rattle.values.specs.Model.Guard.{follows, guardStates}
-use Rattle.values.specs.Model.Numbered.{Reached}
-use Rattle.values.specs.Laws.Numbered.{entry-met, stage-fits, stage-reached, guard-exactly}
+use Rattle.values.specs.Model.GuardStates.{follows, guardStates}
+use Rattle.values.specs.Model.GuardNumbering.{GuardReached}
+use Rattle.values.specs.Laws.GuardNumbering.{entry-met, stage-fits, stage-reached, guard-exactly}
 use Rattle.guard_rows.specs.Model.Entered.{numbered, Entered, Tabled}
 
 module _ {g : Game} {choices order numbers : List ℕ} {n count : ℕ} (t : Tabled g choices order numbers n count) where
@@ -20,11 +20,11 @@ module _ {g : Game} {choices order numbers : List ℕ} {n count : ℕ} (t : Tabl
   count-most = rw (t .numbered .counted) (stage-fits g choices n (t .following .closed) n)
 
   -- each is reached
-  reached : (j : ℕ) → j < count → Reached g choices (getD order j 0)
+  reached : (j : ℕ) → j < count → GuardReached g choices (getD order j 0)
   unfolding guardStates
   reached j h =
       let low : j < length (guardStates g choices n) = omega (arith, t .numbered .counted) in
-      subst (Reached g choices) (sym (t .numbered .states j low)) (stage-reached g choices n (t .following .closed) n j low)
+      subst (GuardReached g choices) (sym (t .numbered .states j low)) (stage-reached g choices n (t .following .closed) n j low)
 
   -- so it leads to states that have numbers
   pub entered : (j : ℕ) → j < count → Entered g choices numbers n (getD order j 0)
@@ -38,14 +38,14 @@ module _ {g : Game} {choices order numbers : List ℕ} {n count : ℕ} (t : Tabl
         most = λ i hi. rw (entry i hi) (omega (arith, count-most, t .following .states, t .numbered .counted, has i hi));
       }
     where
-      onward : (i : ℕ) → i < g .inputs → Reached g choices (follows g choices (getD order j 0) i)
+      onward : (i : ℕ) → i < g .ins → GuardReached g choices (follows g choices (getD order j 0) i)
       onward i hi = there i (reached j h) hi refl
 
-      has : (i : ℕ) → i < g .inputs
+      has : (i : ℕ) → i < g .ins
           → find ℕ eqb (follows g choices (getD order j 0) i) (guardStates g choices n) < length (guardStates g choices n)
       has i hi = guard-exactly g choices n (t .following .closed) _ .0 (onward i hi)
 
-      entry : (i : ℕ) → i < g .inputs
+      entry : (i : ℕ) → i < g .ins
           → getD numbers (follows g choices (getD order j 0) i) 0
           ≡ find ℕ eqb (follows g choices (getD order j 0) i) (guardStates g choices n) + 1
       entry i hi =

@@ -19,8 +19,8 @@ unfoldable pub fieldsOk : ℕ → ℕ → ℕ → ℕ → ℕ → ℕ → Bool
 fieldsOk mode inputs outputs horizon count size =
     linesOk mode inputs outputs && (horizonOk inputs horizon && sizeOk inputs count size)
 
-unfoldable pub headOk : List ℕ → Bool
-headOk t =
+unfoldable pub tableHeadOk : List ℕ → Bool
+tableHeadOk t =
     leb headLength (length t)
     && (headerIs t 0 headSize headKind && fieldsOk (getD t 4 0) (getD t 5 0) (getD t 6 0) (getD t 7 0) (u16At t 8) (length t))
 
@@ -40,4 +40,4 @@ unfoldable pub rowsOk : List ℕ → ℕ → ℕ → ℕ → Bool
 rowsOk t inputs outputs count = all count (rowOk t inputs outputs count)
 
 unfoldable pub loadable : List ℕ → Bool
-loadable t = headOk t && rowsOk t (getD t 5 0) (getD t 6 0) (u16At t 8)
+loadable t = tableHeadOk t && rowsOk t (getD t 5 0) (getD t 6 0) (u16At t 8)

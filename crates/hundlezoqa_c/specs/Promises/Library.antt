@@ -3,9 +3,9 @@
 -- Assumes nothing.
 use mathlib.Core.List.{List}
 use Prim.Native.Nat.{ℕ}
-use Rattle.supervisor.specs.Promises.Supervisor.{MakesSupervisor}
-use Rattle.guard.specs.Promises.Guard.{Work, MakesGuard}
-use Rattle.board_bytes.specs.Promises.Calls.{Reports}
+use Rattle.supervisor.specs.Promises.SupervisorMaker.{MakesSupervisor}
+use Rattle.guard.specs.Promises.GuardMaker.{Work, MakesGuard}
+use Rattle.board_bytes.specs.Promises.ByteCalls.{Reports}
 
 -- `before` and `after` are the result memory; then come the number and the figures, old and new
 abbrev pub ReportsSupervisor : List ℕ → List ℕ → ℕ → ℕ → ℕ → List ℕ → ℕ → List ℕ → List ℕ → Type 0

@@ -1,7 +1,7 @@
 -- `listing::print`: by the length of the sheet. Assumes nothing.
 use mathlib.Core.Path.{refl}
 use native.Mathlib.Omega.{arith}
-use Rattle.listing.specs.Laws.Printing.{writes-prints, prints-guard, prints-long}
+use Rattle.listing.proofs.Printing.{writes-prints, prints-guard, prints-long}
 use borrow.Author.Needs.{needs}
 use Rattle.listing.proofs.print.Statement.{statement}
 use Rattle.listing.proofs.print.Tie as tie

@@ -1,7 +1,7 @@
 -- `listing::print_guard`: what the maker answered is told. Assumes nothing.
 use mathlib.Core.Path.{refl}
 use native.Mathlib.Omega.{arith}
-use Rattle.listing.specs.Laws.Printing.{outcome-prints}
+use Rattle.listing.proofs.Printing.{outcome-prints}
 use borrow.Author.Needs.{needs}
 use Rattle.listing.proofs.print_guard.Statement.{statement}
 use Rattle.listing.proofs.print_guard.Tie as tie

@@ -9,7 +9,7 @@ use lib.ListN.{length}
 use lib.Seq.{sets}
 use Rattle.sheet.specs.Meaning.Refusals.{sheetNumber, firstNumber}
 use Rattle.solve.specs.Model.Making.{sheetOf, manyNumber, lostNumber}
-use Rattle.plan.specs.Model.Table.{guardTableOf}
+use Rattle.plan.specs.Model.GuardOfSheet.{guardTableOf}
 use Rattle.listing_text.specs.Meaning.Listing.{listingOf, refusedText, tooLongText}
 
 -- the most bytes of a sheet

@@ -7,7 +7,7 @@ use Rattle.records.specs.Meaning.Lists.{cat}
 use Rattle.guard_table.specs.Laws.GuardTable.{sized-row, entry-inside}
 use Rattle.listing_text.specs.Meaning.Listing.{entryText, entryOf}
 use Rattle.listing_text.specs.Model.Put.{Put}
-use Rattle.listing_text.specs.Laws.Pieces.{put-same, put-none, put-more, put-all, put-as, fits-next, entry-found}
+use Rattle.listing_text.specs.Laws.Pieces.{put-same, piece-none, piece-more, put-all, put-as, fits-next, entry-found}
 use Rattle.listing_text.proofs.put_entries.Statement.{statement}
 use Rattle.listing_text.proofs.put_entries.Tie as tie
 
@@ -42,7 +42,7 @@ pow2-requires : tie.Need-pow2-requires Inv-loop μ-loop
 pow2-requires c κs = omega (arith, c .before .before .pre .0 .0 .inputs-most)
 
 loop-holds : tie.Need-loop-holds Inv-loop μ-loop
-loop-holds c = (omega arith, put-none _ _ _)
+loop-holds c = (omega arith, piece-none _ _ _)
 
 entry-in-requires : tie.Need-entry-in-requires Inv-loop μ-loop
 entry-in-requires c κs = let s = start (c .before) in entry-inside (sized-row (s .pre .0 .0) (s .pre .0 .1)) (low c)
@@ -63,7 +63,7 @@ loop-again : tie.Need-loop-again Inv-loop μ-loop
 loop-again c =
     let done = c .before .before in
     let at = done .before .before in
-    (omega (arith, low (at .before)), put-more (entries (start (turn at))) (turn at .loop .i) (turn at .loop .inv .1) (put-as (done .put-entry .ensures) (found at)))
+    (omega (arith, low (at .before)), piece-more (entries (start (turn at))) (turn at .loop .i) (turn at .loop .inv .1) (put-as (done .put-entry .ensures) (found at)))
 
 same-length : tie.Need-same-length Inv-loop μ-loop
 same-length c = put-same (c .before .loop .inv .1)

@@ -5,7 +5,7 @@ use native.Mathlib.Omega.{arith}
 use Rattle.records.specs.Meaning.Lists.{cat}
 use Rattle.listing_text.specs.Meaning.Listing.{rowOf}
 use Rattle.listing_text.specs.Model.Put.{Put}
-use Rattle.listing_text.specs.Laws.Pieces.{put-same, put-none, put-more, put-all, fits-next}
+use Rattle.listing_text.specs.Laws.Pieces.{put-same, piece-none, piece-more, put-all, fits-next}
 use Rattle.listing_text.proofs.put_rows.Statement.{statement}
 use Rattle.listing_text.proofs.put_rows.Tie as tie
 
@@ -24,7 +24,7 @@ abbrev rows : tie.Start Inv-loop μ-loop → ℕ → List ℕ
 rows c = rowOf (c .args .table .now) (c .args .inputs)
 
 loop-holds : tie.Need-loop-holds Inv-loop μ-loop
-loop-holds c = (omega arith, put-none _ _ _)
+loop-holds c = (omega arith, piece-none _ _ _)
 
 put-row-requires : tie.Need-put-row-requires Inv-loop μ-loop
 put-row-requires c κs = let at = c .before .before in
@@ -41,7 +41,7 @@ loop-less c = omega arith
 loop-again : tie.Need-loop-again Inv-loop μ-loop
 loop-again c = let done = c .before .before in
     let at = done .before .before .before in
-    (omega arith, put-more (rows (entry at)) (at .loop .k) (at .loop .inv .1) (done .put-row .ensures))
+    (omega arith, piece-more (rows (entry at)) (at .loop .k) (at .loop .inv .1) (done .put-row .ensures))
 
 same-length : tie.Need-same-length Inv-loop μ-loop
 same-length c = put-same (c .before .loop .inv .1)

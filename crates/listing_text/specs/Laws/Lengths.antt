@@ -22,10 +22,10 @@ pub length-entry : (out next : ℕ) → length (entryText out next) ≡ 2 + leng
 unfolding entryText
 length-entry out next = omega (arith, length-append (decimal out) (62 ∷ decimal next))
 
-pub length-row : (t : List ℕ) (inputs k : ℕ)
+pub length-row-text : (t : List ℕ) (inputs k : ℕ)
     → length (rowOf t inputs k) ≡ 2 + length (decimal k) + length (cat (2 ^ inputs) (entryOf t inputs k))
 unfolding rowOf rowText entryOf
-length-row t inputs k =
+length-row-text t inputs k =
     let entries = cat (2 ^ inputs) (entryOf t inputs k) in
     omega (arith, length-append (decimal k) (58 ∷ (entries ++ lineEnd)), length-append entries lineEnd)
 

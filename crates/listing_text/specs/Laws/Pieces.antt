@@ -56,12 +56,12 @@ pub word-all : (word : List ℕ) (i : ℕ) → i ≡ length word → {before : L
 word-all word i e p = put-as p (ap (λ (n : ℕ). tab n (λ j. getD word j 0)) e ∙ sym (tab-self 0 word))
 
 -- blocks, as a loop puts them
-pub put-none : (before : List ℕ) (at : ℕ) (f : ℕ → List ℕ) → Put before at (cat 0 f) at before
-put-none before at f = rw cat-none (record { place-is = omega arith; bytes = refl })
+pub piece-none : (before : List ℕ) (at : ℕ) (f : ℕ → List ℕ) → Put before at (cat 0 f) at before
+piece-none before at f = rw cat-none (record { place-is = omega arith; bytes = refl })
 
-pub put-more : (f : ℕ → List ℕ) (k : ℕ) {before : List ℕ} {at place end : ℕ} {now after : List ℕ}
+pub piece-more : (f : ℕ → List ℕ) (k : ℕ) {before : List ℕ} {at place end : ℕ} {now after : List ℕ}
     → Put before at (cat k f) place now → Put now place (f k) end after → Put before at (cat (k + 1) f) end after
-put-more f k p q = rw cat-more (put-then p q)
+piece-more f k p q = rw cat-more (put-then p q)
 
 pub put-all : (f : ℕ → List ℕ) (k n : ℕ) → k ≡ n → {before : List ℕ} {at place : ℕ} {now : List ℕ}
     → Put before at (cat k f) place now → Put before at (cat n f) place now

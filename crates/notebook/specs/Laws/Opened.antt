@@ -11,13 +11,13 @@ use Rattle.records.specs.Meaning.Records.{readAt}
 use Rattle.guard_table.specs.Meaning.GuardTable.{rowLength, tableLength, rowAt, entryAt, headerIs, outputIn, nextIn, guardRow, guardTable}
 use Rattle.game.specs.Model.Numbering.{explore, visit, met, meet, add, find}
 use Rattle.game.specs.Model.Choice.{before, against, leader, choose}
-use Rattle.sheet.specs.Meaning.Decoded.{inputsOf, lettersOf, encode, encodeHead, encodeMonitor}
+use Rattle.sheet.specs.Meaning.Decoded.{guardLines, lettersRead, encode, encodeHead, encodeMonitor}
 use Rattle.sheet.specs.Model.Layout.{withMonitor}
 use Rattle.sheet_fields.specs.Meaning.Head.{siteOk, freshLine, literalOk, literalsOk, numbersOk, headOk}
 use Rattle.sheet_fields.specs.Model.Head.{literalAt}
-use Rattle.sheet.specs.Model.Head.{headSheet, readHead}
+use Rattle.sheet.specs.Model.HeadRecord.{headSheet, readHead}
 use Rattle.sheet_fields.specs.Meaning.Monitor.{roleOk, statesOk, bytesMost, monitorOk}
-use Rattle.sheet.specs.Model.Monitor.{monitorAt, takeMonitor}
+use Rattle.sheet.specs.Model.MonitorRecord.{monitorAt, takeMonitor}
 use Rattle.sheet.specs.Model.Reader.{takeRecord, onFound, readRecords, firstFound, reading}
 use Rattle.sheet.specs.Meaning.Refusals.{headNumber, monitorNumber, recordsNumber, sheetNumber}
 use Rattle.sheet.specs.Model.Where.{automaton, decoded}
@@ -25,27 +25,27 @@ use Rattle.game.specs.Meaning.Proposal.{proposal, differs, deviates}
 use Rattle.product.specs.Meaning.Step.{siteLetter, nextState, accepts, shadowed, shadowMoved, sound, limitLetter, letterOf, monitorMoved, moved, advance, broken, firstTuple, line, equalLines, softReward}
 use Rattle.product.specs.Model.Stages.{matchReward}
 use Rattle.product.specs.Model.States.{same}
-use Rattle.product.specs.Model.Numbered.{statesAfter, productStates, stateCount, stateOf, numberOf, cellOf}
-use Rattle.rounds.specs.Model.Rounds.{cellAt, isIn, leadsIn, answered, stays, entryAfter, round, rounds, settled, maskOf}
+use Rattle.product.specs.Model.ProductNumbering.{statesAfter, productStates, stateCount, stateOf, numberOf, cellOf}
+use Rattle.rounds.specs.Model.TableRounds.{cellAt, isIn, leadsIn, answered, stays, entryAfter, round, rounds, settled, maskOf}
 use Rattle.solve.specs.Model.Steps.{cellsOf, droppedOf}
-use Rattle.supervisor.specs.Model.Table.{tableHead, tableOf, supervisorTable}
-use Rattle.supervisor_table.specs.Model.Rows.{keptFlag, tableRow}
+use Rattle.supervisor.specs.Model.SupervisorOfSheet.{tableHead, tableOf, supervisorTable}
+use Rattle.supervisor_table.specs.Model.MaskRows.{keptFlag, tableRow}
 use Rattle.solve.specs.Model.Making.{sheetOf, manyNumber, lostNumber, roomNumber, tableNumber, makingNumber}
-use Rattle.values.specs.Meaning.Order.{holds}
+use Rattle.values.specs.Meaning.Order.{literalHolds}
 use Rattle.values.specs.Model.Rank.{rankBy, rank}
 use Rattle.values.specs.Model.Values as values
 use Rattle.values.specs.Model.Values.{mayGive, earns, scoreOf, worth, valueRow, choiceOf, choices}
-use Rattle.values.specs.Model.Guard.{chosen, follows, guardStates, guardNumber}
-use Rattle.plan.specs.Model.Table as guard
-use Rattle.plan.specs.Model.Table.{gainsOf, bonusesOf, gameOf, valuesOf, choicesOf, guardOf, guardCount, outputOf, guardOver, guardTableOf}
+use Rattle.values.specs.Model.GuardStates.{chosen, follows, guardStates, guardNumber}
+use Rattle.plan.specs.Model.GuardOfSheet as guard
+use Rattle.plan.specs.Model.GuardOfSheet.{gainsOf, bonusesOf, sheetGame, valuesOf, choicesOf, guardOf, guardCount, outputOf, guardOver, guardTableOf}
 use Rattle.board.specs.Meaning.Board.{countsOk, live, emptyBoard, runAt}
 use Rattle.guard_table.specs.Meaning.Loadable as table
 use Rattle.guard_table.specs.Meaning.Loadable.{sizeOk, fieldsOk, entryOk, entriesOk, rowOk, rowsOk, loadable}
 use Rattle.board.specs.Meaning.Load.{boardOf, loadOn}
-use Rattle.board.specs.Meaning.Step as board
-use Rattle.board.specs.Meaning.Step.{entryFits, lookedUp, stepOn}
+use Rattle.board.specs.Meaning.BoardStep as board
+use Rattle.board.specs.Meaning.BoardStep.{entryFits, lookedUp, stepOn}
 use Rattle.notebook.specs.Model.Row.{isAbove, isOrdered, test, tests}
-use Rattle.notebook.specs.Model.Figures.{scoresOf, outputsFrom, boardFrom, outputs, deviations}
+use Rattle.notebook.specs.Model.Figures.{scoresOf, outputsFrom, boardFrom, outputs, deviationsShown}
 
 -- lists and numbers
 unfoldable pub lists : Unit {0}
@@ -54,7 +54,7 @@ lists = tt
 
 -- a sheet's bytes, and how they are read
 unfoldable pub sheets : Unit {0}
-unfolding lists encode encodeHead encodeMonitor readAt inputsOf lettersOf siteOk freshLine literalOk literalsOk numbersOk headOk literalAt headSheet readHead
+unfolding lists encode encodeHead encodeMonitor readAt guardLines lettersRead siteOk freshLine literalOk literalsOk numbersOk headOk literalAt headSheet readHead
     withMonitor roleOk statesOk bytesMost monitorOk monitorAt takeMonitor takeRecord onFound readRecords firstFound reading
     headNumber monitorNumber recordsNumber sheetNumber automaton decoded sheetOf
 sheets = tt
@@ -69,13 +69,13 @@ supervisors = tt
 
 -- rewards, values, choices and the guard table
 unfoldable pub guards : Unit {0}
-unfolding supervisors scoresOf line equalLines softReward gainsOf matchReward bonusesOf gameOf before against leader choose holds rankBy rank
-    mayGive values.nextOf earns scoreOf worth valueRow valuesOf choiceOf choices choicesOf chosen follows guardStates guardNumber
+unfolding supervisors scoresOf line equalLines softReward gainsOf matchReward bonusesOf sheetGame before against leader choose literalHolds rankBy rank
+    mayGive values.cellNext earns scoreOf worth valueRow valuesOf choiceOf choices choicesOf chosen follows guardStates guardNumber
     guardOf guardCount outputOf guard.nextOf guardRow guardTable guardOver guardTableOf
 guards = tt
 
 -- load and step
 unfoldable pub boards : Unit {0}
-unfolding lists rowLength tableLength rowAt entryAt headerIs outputIn nextIn countsOk live emptyBoard runAt sizeOk fieldsOk table.headOk entryOk entriesOk rowOk rowsOk
-    loadable boardOf loadOn proposal differs deviates entryFits board.moved lookedUp stepOn outputsFrom boardFrom outputs deviations
+unfolding lists rowLength tableLength rowAt entryAt headerIs outputIn nextIn countsOk live emptyBoard runAt sizeOk fieldsOk table.tableHeadOk entryOk entriesOk rowOk rowsOk
+    loadable boardOf loadOn proposal differs deviates entryFits board.boardMoved lookedUp stepOn outputsFrom boardFrom outputs deviationsShown
 boards = tt

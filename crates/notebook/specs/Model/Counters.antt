@@ -9,7 +9,7 @@ use lib.ListN.{length}
 use Rattle.records.specs.Meaning.Lists.{tab}
 use Rattle.records.specs.Laws.Lists.{length-tab}
 use Rattle.sheet.specs.Meaning.Decoded.{Automaton, Decoded, encode}
-use Rattle.product.specs.Laws.Numbered.{same-equal}
+use Rattle.product.specs.Laws.ProductNumbering.{same-equal}
 use Rattle.solve.specs.Model.Making.{sheetOf, makingNumber}
 use Rattle.solve.specs.Meaning.Made.{madeNumber, madeStates}
 use Rattle.solve.specs.declared.made.Made.{Made}

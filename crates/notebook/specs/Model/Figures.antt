@@ -7,15 +7,15 @@ use Rattle.records.specs.Meaning.Lists.{tab}
 use Rattle.guard_table.specs.Model.Inside.{tableMost}
 use Rattle.sheet.specs.Meaning.Decoded.{Decoded}
 use Rattle.product.specs.Meaning.Step.{inputsOf, outputsOf}
-use Rattle.product.specs.Model.Numbered.{stateCount}
+use Rattle.product.specs.Model.ProductNumbering.{stateCount}
 use Rattle.values.specs.Model.Values.{scoreOf}
 use Rattle.board.specs.Meaning.Board.{emptyBoard}
 use Rattle.board.specs.Meaning.Load.{loadOn}
-use Rattle.board.specs.Meaning.Step.{stepOn, stepOutput}
+use Rattle.board.specs.Meaning.BoardStep.{stepOn, stepOutput}
 use Rattle.board.specs.declared.Board.{Board}
-use Rattle.supervisor.specs.Model.Table.{supervisorTable}
+use Rattle.supervisor.specs.Model.SupervisorOfSheet.{supervisorTable}
 use Rattle.solve.specs.Model.Making.{sheetOf, makingNumber}
-use Rattle.plan.specs.Model.Table.{gameOf, valuesOf, guardTableOf}
+use Rattle.plan.specs.Model.GuardOfSheet.{sheetGame, valuesOf, guardTableOf}
 
 -- ---- the makers
 
@@ -27,8 +27,8 @@ room = tableMost
 abbrev pub supervisorNumber : List ℕ → ℕ
 supervisorNumber sheet = makingNumber supervisorTable true sheet room
 
-abbrev pub guardNumber : List ℕ → ℕ
-guardNumber sheet = makingNumber guardTableOf true sheet room
+abbrev pub guardAnswer : List ℕ → ℕ
+guardAnswer sheet = makingNumber guardTableOf true sheet room
 
 -- their tables
 abbrev pub supervisor : List ℕ → List ℕ
@@ -44,7 +44,7 @@ states sheet = stateCount (sheetOf sheet)
 
 -- the scores of the outputs at product state k and input i, over the sheet's horizon
 unfoldable pub scoresOf : Decoded → ℕ → ℕ → List ℕ
-scoresOf d k i = tab (outputsOf d) (scoreOf (gameOf d) (valuesOf d (d .horizon)) (inputsOf d ^ d .horizon) k i)
+scoresOf d k i = tab (outputsOf d) (scoreOf (sheetGame d) (valuesOf d (d .horizon)) (inputsOf d ^ d .horizon) k i)
 
 abbrev pub scores : List ℕ → ℕ → ℕ → List ℕ
 scores sheet k i = scoresOf (sheetOf sheet) k i
@@ -64,5 +64,5 @@ boardFrom b table (i ∷ inputs) = boardFrom (stepOn b table i .board) table inp
 unfoldable pub outputs : List ℕ → List ℕ → List ℕ
 outputs table inputs = outputsFrom (loadOn emptyBoard table .board) table inputs
 
-unfoldable pub deviations : List ℕ → List ℕ → ℕ
-deviations table inputs = boardFrom (loadOn emptyBoard table .board) table inputs .deviations
+unfoldable pub deviationsShown : List ℕ → List ℕ → ℕ
+deviationsShown table inputs = boardFrom (loadOn emptyBoard table .board) table inputs .deviations

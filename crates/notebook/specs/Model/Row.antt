@@ -8,7 +8,7 @@ use lib.Dec.{ltb, eqb}
 use borrow.Author.Tests.{ltb-true, eqb-true}
 use Rattle.records.specs.Laws.Tests.{and-left, and-right}
 use Rattle.product.specs.Model.States.{same}
-use Rattle.product.specs.Laws.Numbered.{same-equal}
+use Rattle.product.specs.Laws.ProductNumbering.{same-equal}
 use Rattle.values.specs.Meaning.Order.{Higher}
 use Rattle.values.specs.Model.Rank.{rank}
 use Rattle.values.specs.Laws.Ranks.{rank-order}

@@ -19,25 +19,25 @@ use Rattle.product.specs.Meaning.Step.{softReward, weightOf}
 use Rattle.product.specs.Model.Stages.{matchReward}
 use Rattle.product.specs.Model.States.{tupleAt}
 use Rattle.product.specs.Laws.Tuples.{reached-in-range}
-use Rattle.product.specs.Model.Numbered.{stateOf}
-use Rattle.product.specs.Laws.Numbered.{some-state, state-reached}
-use Rattle.rounds.specs.Model.Rounds.{isIn}
-use Rattle.rounds.specs.Laws.Agree.{in-agree}
+use Rattle.product.specs.Model.ProductNumbering.{stateOf}
+use Rattle.product.specs.Laws.ProductNumbering.{some-state, state-reached}
+use Rattle.rounds.specs.Model.TableRounds.{isIn}
+use Rattle.rounds.specs.Laws.SameRounds.{in-agree}
 use Rattle.solve.specs.Model.Steps.{droppedOf}
 use Rattle.solve.specs.Model.Solve.{Solution}
 use Rattle.solve.specs.Laws.Solving.{inputs-most, outputs-most, letters-most, layout-inputs, layout-outputs}
-use Rattle.values.specs.Model.Values.{Game, Sized, valueRow}
+use Rattle.values.specs.Model.Values.{Game, SizedGame, valueRow}
 use Rattle.values.specs.Model.Sizes.{Valued}
 use Rattle.values.specs.Model.Sizes as sizes
 use Rattle.values.specs.Laws.Growth.{row-valued}
 use Rattle.values.specs.Model.Leaders.{literalsOf}
-use Rattle.values.specs.Model.Guard.{chosen, follows, guardStates}
+use Rattle.values.specs.Model.GuardStates.{chosen, follows, guardStates}
 use Rattle.values.specs.Model.Values as vals
-use Rattle.values.specs.Model.Numbered.{stepsOf, Following, Numbered}
-use Rattle.values.specs.Laws.Numbered.{entry-met, steps-only}
+use Rattle.values.specs.Model.GuardNumbering.{stepsOf, Following, Numbered}
+use Rattle.values.specs.Laws.GuardNumbering.{entry-met, steps-only}
 use Rattle.values.specs.Laws.Choices.{choices-following}
-use Rattle.plan.specs.Model.Table.{guardOf, guardCount}
-use Rattle.plan.specs.Laws.Agree.{SameGuard, choicesBy, stored-guard}
+use Rattle.plan.specs.Model.GuardOfSheet.{guardOf, guardCount}
+use Rattle.plan.specs.Laws.SamePlan.{SameGuard, choicesBy, stored-guard}
 use Rattle.plan.specs.Laws.Solved.{sheet-horizon, few, words-most, layout-literals, stored, sized, code-table}
 use Rattle.guard_rows.specs.Model.Entered.{numbered, tableBy}
 use Rattle.plan.specs.Model.Planned.{Playable, Planned}
@@ -68,8 +68,8 @@ tuples-in-range {d} ok p k h =
 
 -- only steps and choices count where chosen outputs lead
 following-steps : (g : Game) (choices : List ℕ) (n : ℕ) → Following g choices n
-    → Following (stepsOf (g .cells) (g .inputs) (g .outputs)) choices n
-unfolding follows chosen vals.nextOf
+    → Following (stepsOf (g .cells) (g .ins) (g .outs)) choices n
+unfolding follows chosen vals.cellNext
 following-steps g choices n f =
     record { states = f .states; steps = f .steps; chosen-room = f .chosen-room; output = f .output; closed = f .closed }
 
@@ -77,36 +77,36 @@ following-steps g choices n f =
 
 module _ {s : List ℕ} {sheet : Sheet} (fits : Fits s sheet) {n : ℕ} {tuples cells dropped : List ℕ}
     (p : Playable (decoded s sheet) n tuples cells dropped)
-    (inputs outputs : ℕ) (is-inputs : inputs ≡ 2 ^ sheet .inputs) (is-outputs : outputs ≡ 2 ^ sheet .outputs)
+    (ins outs : ℕ) (is-inputs : ins ≡ 2 ^ sheet .inputs) (is-outputs : outs ≡ 2 ^ sheet .outputs)
   where
-    ins : inputs ≡ Rattle.product.specs.Meaning.Step.inputsOf (decoded s sheet)
-    ins = is-inputs ∙ layout-inputs fits
+    ins-are : ins ≡ Rattle.product.specs.Meaning.Step.inputsOf (decoded s sheet)
+    ins-are = is-inputs ∙ layout-inputs fits
 
-    outs : outputs ≡ Rattle.product.specs.Meaning.Step.outputsOf (decoded s sheet)
-    outs = is-outputs ∙ layout-outputs s sheet
+    outs-are : outs ≡ Rattle.product.specs.Meaning.Step.outputsOf (decoded s sheet)
+    outs-are = is-outputs ∙ layout-outputs s sheet
 
     -- how many there are
-    pub counts-low : (1 ≤ inputs) × (inputs ≤ 16) × (1 ≤ outputs) × (outputs ≤ 8) × (inputs * outputs ≤ 64)
+    pub counts-low : (1 ≤ ins) × (ins ≤ 16) × (1 ≤ outs) × (outs ≤ 8) × (ins * outs ≤ 64)
     counts-low = (
       omega (arith, lib.Pow.pow-pos (sheet .inputs)),
-      omega (arith, ins, inputs-most (decoded s sheet) (fits .ok .head)),
+      omega (arith, ins-are, inputs-most (decoded s sheet) (fits .ok .head)),
       omega (arith, lib.Pow.pow-pos (sheet .outputs)),
-      omega (arith, outs, outputs-most (decoded s sheet) (fits .ok .head)),
-      rw (ins, outs) (letters-most (decoded s sheet) (fits .ok .head)),
+      omega (arith, outs-are, outputs-most (decoded s sheet) (fits .ok .head)),
+      rw (ins-are, outs-are) (letters-most (decoded s sheet) (fits .ok .head)),
     )
 
     -- the choices have room
-    pub choices-room : n * inputs ≤ 4096
+    pub choices-room : n * ins ≤ 4096
     choices-room = omega (arith, mul-le-mul (p .solution .numbering .most) (counts-low .1))
 
     -- the words of a horizon in bounds
-    pub plan-words : (h : ℕ) → horizonOk (inputLines (decoded s sheet)) h ≡ true → (h ≤ 24) × (inputs ^ h ≤ 2 ^ 24)
-    plan-words h far = (horizon-facts _ h far .most, rw ins (words-most (decoded s sheet) h far))
+    pub plan-words : (h : ℕ) → horizonOk (inputLines (decoded s sheet)) h ≡ true → (h ≤ 24) × (ins ^ h ≤ 2 ^ 24)
+    plan-words h far = (horizon-facts _ h far .most, rw ins-are (words-most (decoded s sheet) h far))
 
     module _
         (gains₀ bonuses₀ : List ℕ) {gains bonuses : List ℕ}
         (earned : gains ≡ put gains₀ n (λ k. softReward (weightOf (decoded s sheet)) (decoded s sheet) (tupleAt tuples k)))
-        (matched : bonuses ≡ put bonuses₀ (inputs * outputs) (λ l. matchReward (decoded s sheet) (l % inputs) (l / inputs)))
+        (matched : bonuses ≡ put bonuses₀ (ins * outs) (λ l. matchReward (decoded s sheet) (l % ins) (l / ins)))
         (gains-room : 256 ≤ length gains₀) (bonuses-room : 64 ≤ length bonuses₀)
       where
         most : n ≤ 256
@@ -120,25 +120,25 @@ module _ {s : List ℕ} {sheet : Sheet} (fits : Fits s sheet) {n : ℕ} {tuples 
             ∙ getD-put-front gains₀ n (λ q. softReward (weightOf (decoded s sheet)) (decoded s sheet) (tupleAt tuples q)) k 0 h low
             ∙ ap (λ (t : List ℕ). softReward (weightOf (decoded s sheet)) (decoded s sheet) t) (p .solution .numbering .tuple k h)
 
-        matched-at : (l : ℕ) → l < inputs * outputs → getD bonuses l 0 ≡ matchReward (decoded s sheet) (l % inputs) (l / inputs)
+        matched-at : (l : ℕ) → l < ins * outs → getD bonuses l 0 ≡ matchReward (decoded s sheet) (l % ins) (l / ins)
         matched-at l h =
             let low : l < length bonuses₀ = omega (arith, counts-low .4) in
             ap (λ (x : List ℕ). getD x l 0) matched
-            ∙ getD-put-front bonuses₀ (inputs * outputs) (λ q. matchReward (decoded s sheet) (q % inputs) (q / inputs)) l 0 h low
+            ∙ getD-put-front bonuses₀ (ins * outs) (λ q. matchReward (decoded s sheet) (q % ins) (q / ins)) l 0 h low
 
         abbrev game : Game
-        game = sizes.gameOf cells dropped gains bonuses inputs outputs
+        game = sizes.gameOf cells dropped gains bonuses ins outs
 
         -- the table has the sizes that working out values relies on
-        pub plan-sized : 16384 ≤ length cells → 256 ≤ length dropped → Sized game n
+        pub plan-sized : 16384 ≤ length cells → 256 ≤ length dropped → SizedGame game n
         plan-sized wide-cells wide-dropped =
-            sized (p .solution) gains bonuses inputs outputs ins outs earned-at matched-at (fits .ok) wide-cells wide-dropped
+            sized (p .solution) gains bonuses ins outs ins-are outs-are earned-at matched-at (fits .ok) wide-cells wide-dropped
             (rw (earned, length-put) gains-room) (rw (matched, length-put) bonuses-room)
 
         module _ (wide-cells : 16384 ≤ length cells) (wide-dropped : 256 ≤ length dropped)
             (h : ℕ) (far : horizonOk (inputLines (decoded s sheet)) h ≡ true)
             (values₀ choices₀ : List ℕ) {values : List ℕ} {words : ℕ}
-            (valued : values ≡ valueRow game n values₀ h) (counted : words ≡ inputs ^ h)
+            (valued : values ≡ valueRow game n values₀ h) (counted : words ≡ ins ^ h)
             (values-room : 256 ≤ length values₀) (chosen-room : 4096 ≤ length choices₀)
           where
             -- values fit
@@ -158,15 +158,15 @@ module _ {s : List ℕ} {sheet : Sheet} (fits : Fits s sheet) {n : ℕ} {tuples 
               same : SameGuard (decoded s sheet) h n game values₀ choices₀
               same =
                   stored-guard (decoded s sheet) (few (p .solution)) (sym (p .solution .start-kept)) h n game
-                  (stored (p .solution) gains bonuses inputs outputs ins outs earned-at matched-at)
+                  (stored (p .solution) gains bonuses ins outs ins-are outs-are earned-at matched-at)
                   values₀ choices₀ (omega (arith, most)) (omega (arith, choices-room))
 
               -- chosen outputs reach none but the n states
-              pub plan-following : Following (stepsOf cells inputs outputs) choices n
+              pub plan-following : Following (stepsOf cells ins outs) choices n
               plan-following =
                   following-steps game choices n
                   (subst (λ (c : List ℕ). Following game c n) (sym by-horizon)
-                  (choices-following game (decoded s sheet .literals) (valueRow game n values₀ h) (inputs ^ h) n choices₀
+                  (choices-following game (decoded s sheet .literals) (valueRow game n values₀ h) (ins ^ h) n choices₀
                   (omega (arith, choices-room)) (plan-sized wide-cells wide-dropped) (same .live)
                   (omega (arith, some-state (decoded s sheet), p .solution .numbering .counted))
                   (kept-start)))
@@ -179,11 +179,11 @@ module _ {s : List ℕ} {sheet : Sheet} (fits : Fits s sheet) {n : ℕ} {tuples 
 
               -- and the states numbered, the table is the sheet's
               pub plan-made : {order numbers : List ℕ} {count : ℕ} → n ≤ length order → n ≤ length numbers
-                  → Numbered n (guardStates (stepsOf cells inputs outputs) choices n) order numbers count
-                  → Planned (decoded s sheet) h (stepsOf cells inputs outputs) choices order numbers n count
-              unfolding guardCount numbered follows chosen vals.nextOf
+                  → Numbered n (guardStates (stepsOf cells ins outs) choices n) order numbers count
+                  → Planned (decoded s sheet) h (stepsOf cells ins outs) choices order numbers n count
+              unfolding guardCount numbered follows chosen vals.cellNext
               plan-made {order} {numbers} {count} order-room numbers-room done =
-                  let states : guardStates (stepsOf cells inputs outputs) choices n ≡ guardOf (decoded s sheet) h =
+                  let states : guardStates (stepsOf cells ins outs) choices n ≡ guardOf (decoded s sheet) h =
                   steps-only game choices n
                   ∙ ap (λ (c : List ℕ). guardStates game c n) by-horizon ∙ same .states in
                   let done′ : Numbered n (guardOf (decoded s sheet) h) order numbers count =
@@ -198,8 +198,8 @@ module _ {s : List ℕ} {sheet : Sheet} (fits : Fits s sheet) {n : ℕ} {tuples 
                     counted = done′ .counted;
                     table =
                         ap (λ (m : ℕ). tableBy (decoded s sheet .mode) (inputLines (decoded s sheet)) (decoded s sheet .outputs) h m
-                        (stepsOf cells inputs outputs) choices order numbers) (done′ .counted)
-                        ∙ code-table (decoded s sheet) (few (p .solution)) (sym (p .solution .start-kept)) h n game values₀ choices₀ same ins
+                        (stepsOf cells ins outs) choices order numbers) (done′ .counted)
+                        ∙ code-table (decoded s sheet) (few (p .solution)) (sym (p .solution .start-kept)) h n game values₀ choices₀ same ins-are
                         choices by-horizon order numbers (done′ .states)
                         (λ k l has. done′ .entries k l ∙ entry-met (guardOf (decoded s sheet) h) k has)
                         _ _ (λ j i hj hi. refl) (λ j i hj hi. refl);

@@ -25,18 +25,18 @@ use Rattle.product.specs.Meaning.Step.{inputsOf, outputsOf, softReward, weightO
 use Rattle.product.specs.Model.Stages.{matchReward}
 use Rattle.product.specs.Laws.Rewards.{soft-most, match-most}
 use Rattle.product.specs.Model.States.{lettersOf}
-use Rattle.product.specs.Model.Numbered.{stateCount, stateOf}
+use Rattle.product.specs.Model.ProductNumbering.{stateCount, stateOf}
 use Rattle.game.specs.Model.Numbering.{find}
-use Rattle.rounds.specs.Model.Rounds.{Steps, isIn}
+use Rattle.rounds.specs.Model.TableRounds.{Steps, isIn}
 use Rattle.solve.specs.Model.Steps.{droppedOf}
 use Rattle.solve.specs.Model.Solve.{Solution}
 use Rattle.solve.specs.Laws.Solving.{inputs-most, outputs-most, letters-most, cells-most, cells-agree, numbering-steps}
-use Rattle.values.specs.Model.Values.{Game, Sized}
-use Rattle.values.specs.Model.Guard.{chosen, follows}
-use Rattle.plan.specs.Model.Table as table
-use Rattle.plan.specs.Model.Table.{gainsOf, bonusesOf, gameOf, guardOf, guardCount, outputOf, guardOver}
+use Rattle.values.specs.Model.Values.{Game, SizedGame}
+use Rattle.values.specs.Model.GuardStates.{chosen, follows}
+use Rattle.plan.specs.Model.GuardOfSheet as table
+use Rattle.plan.specs.Model.GuardOfSheet.{gainsOf, bonusesOf, sheetGame, guardOf, guardCount, outputOf, guardOver}
 use Rattle.plan.specs.Laws.Reaching.{next-low}
-use Rattle.plan.specs.Laws.Agree.{Stored, SameGuard, choicesBy}
+use Rattle.plan.specs.Laws.SamePlan.{Stored, SameGuard, choicesBy}
 
 -- ---- numbers that the code relies on
 
@@ -72,22 +72,22 @@ module _
     -- ---- the table of steps, with gains and bonuses
 
     module _
-        (gains bonuses : List ℕ) (inputs outputs : ℕ) (is-inputs : inputs ≡ inputsOf d) (is-outputs : outputs ≡ outputsOf d)
+        (gains bonuses : List ℕ) (ins outs : ℕ) (is-inputs : ins ≡ inputsOf d) (is-outputs : outs ≡ outputsOf d)
         (earned : (k : ℕ) → k < n → getD gains k 0 ≡ softReward (weightOf d) d (stateOf d k))
-        (matched : (l : ℕ) → l < inputs * outputs → getD bonuses l 0 ≡ matchReward d (l % inputs) (l / inputs))
+        (matched : (l : ℕ) → l < ins * outs → getD bonuses l 0 ≡ matchReward d (l % ins) (l / ins))
       where
         bonus-at : (l : ℕ) → l < lettersOf d → getD bonuses l 0 ≡ matchReward d (l % inputsOf d) (l / inputsOf d)
         bonus-at = rw (is-inputs, is-outputs) at matched
 
         -- it is the sheet's, as far as it is read
         pub stored : Stored d n
-            (record { cells = cells; dropped = dropped; gains = gains; bonuses = bonuses; inputs = inputs; outputs = outputs })
-        unfolding gameOf gainsOf bonusesOf
+            (record { cells = cells; dropped = dropped; gains = gains; bonuses = bonuses; ins = ins; outs = outs })
+        unfolding sheetGame gainsOf bonusesOf
         stored =
             record {
               counted = solution .numbering .counted;
-              inputs = is-inputs;
-              outputs = is-outputs;
+              ins = is-inputs;
+              outs = is-outputs;
               holds = record {
                 cells-are = cells-agree (solution .numbering);
                 dropped-are = λ k h. sym (solution .rounds k (omega (arith, solution .numbering .counted)));
@@ -98,12 +98,12 @@ module _
 
         -- and of the sizes that working out values relies on
         pub sized : SheetOk d → 16384 ≤ length cells → maxStates ≤ length dropped → maxStates ≤ length gains → 64 ≤ length bonuses
-            → Sized (record { cells = cells; dropped = dropped; gains = gains; bonuses = bonuses; inputs = inputs; outputs = outputs }) n
+            → SizedGame (record { cells = cells; dropped = dropped; gains = gains; bonuses = bonuses; ins = ins; outs = outs }) n
         sized ok wide-cells wide-dropped wide-gains wide-bonuses =
             let most : n ≤ maxStates = solution .numbering .most in
-            let letters : inputs * outputs ≤ 64 = rw (is-inputs, is-outputs) (letters-most d (ok .head)) in
-            let rows : n * (inputs * outputs) ≤ 16384 = rw (is-inputs, is-outputs) (cells-most d (ok .head) n most) in
-            let steps : Steps cells n inputs outputs =
+            let letters : ins * outs ≤ 64 = rw (is-inputs, is-outputs) (letters-most d (ok .head)) in
+            let rows : n * (ins * outs) ≤ 16384 = rw (is-inputs, is-outputs) (cells-most d (ok .head) n most) in
+            let steps : Steps cells n ins outs =
             rw (is-inputs, is-outputs)
             (numbering-steps (solution .numbering) (omega (arith, cells-most d (ok .head) n most))) in
             record {
@@ -118,14 +118,14 @@ module _
               gains = omega arith;
               gain = λ k h. rw (earned k h) (soft-most d ok (stateOf d k));
               bonuses = omega arith;
-              bonus = λ l h. rw (matched l h) (match-most d ok (l % inputs) (l / inputs));
+              bonus = λ l h. rw (matched l h) (match-most d ok (l % ins) (l / ins));
             }
 
 -- ---- the table, by the code's numbering
 
 module _
     (d : Decoded) (fits : stateCount d ≤ maxStates) (start : isIn (droppedOf d) 0 ≡ true) (h n : ℕ) (g : Game) (memory others : List ℕ)
-    (same : SameGuard d h n g memory others) (is-inputs : g .inputs ≡ inputsOf d)
+    (same : SameGuard d h n g memory others) (is-inputs : g .ins ≡ inputsOf d)
     (choices : List ℕ) (is-choices : choices ≡ choicesBy g n (d .literals) h memory others)
     (order numbers : List ℕ) (ordered : (j : ℕ) → j < guardCount d h → getD order j 0 ≡ getD (guardOf d h) j 0)
     (numbered : (k : ℕ) → k < n → find ℕ eqb k (guardOf d h) < guardCount d h → getD numbers k 0 ≡ find ℕ eqb k (guardOf d h) + 1)
@@ -133,7 +133,7 @@ module _
     -- the output of an entry
     pub code-output : (j i : ℕ) → j < guardCount d h → i < inputsOf d → chosen g choices (getD order j 0) i ≡ outputOf d h j i
     code-output j i hj hi =
-        let low : i < g .inputs = omega arith in
+        let low : i < g .ins = omega arith in
         ap₂ (λ (c : List ℕ) (k : ℕ). chosen g c k i) is-choices (ordered j hj) ∙ same .out j i hj low
 
     follows-at : (j i : ℕ) → j < guardCount d h
@@ -144,7 +144,7 @@ module _
     pub code-next : (j i : ℕ) → j < guardCount d h → i < inputsOf d
         → getD numbers (follows g choices (getD order j 0) i) 0 - 1 ≡ table.nextOf d h j i
     code-next j i hj hi =
-        let low : i < g .inputs = omega arith in
+        let low : i < g .ins = omega arith in
         let inside : follows g choices (getD order j 0) i < n = rw (follows-at j i hj) (same .among j i hj low) in
         let number : find ℕ eqb (follows g choices (getD order j 0) i) (guardOf d h) ≡ table.nextOf d h j i =
         ap (λ (k : ℕ). find ℕ eqb k (guardOf d h)) (follows-at j i hj) ∙ same .next j i hj low in

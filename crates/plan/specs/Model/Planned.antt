@@ -8,7 +8,7 @@ use lib.ListN.{length}
 use Rattle.sheet.specs.Meaning.Decoded.{Decoded, inputLines}
 use Rattle.solve.specs.Model.Solve.{Solution}
 use Rattle.values.specs.Model.Values.{Game}
-use Rattle.plan.specs.Model.Table.{guardCount, guardOver}
+use Rattle.plan.specs.Model.GuardOfSheet.{guardCount, guardOver}
 use Rattle.guard_rows.specs.Model.Entered.{tableBy, Tabled}
 
 -- work memory that is long enough for every sheet

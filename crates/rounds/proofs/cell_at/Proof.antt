@@ -1,8 +1,8 @@
 -- `rounds::cell_at`: the cell lies in the state's row, whose end fits. Assumes nothing.
 use native.Mathlib.Omega.{arith}
 use mathlib.Core.Path.{refl}
-use Rattle.rounds.specs.Model.Rounds.{cellAt}
-use Rattle.rounds.specs.Laws.Cells.{cell-in-row}
+use Rattle.rounds.specs.Model.TableRounds.{cellAt}
+use Rattle.rounds.specs.Laws.CellPlaces.{cell-in-row}
 use borrow.Author.Needs.{needs}
 use Rattle.rounds.proofs.cell_at.Statement.{statement}
 use Rattle.rounds.proofs.cell_at.Tie as tie

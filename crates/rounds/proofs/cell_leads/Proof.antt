@@ -6,7 +6,7 @@ use mathlib.Core.Path.{_≡_}
 use mathlib.Core.Bool.{false}
 use Rattle.records.specs.Laws.Tests.{said}
 use Rattle.records.specs.Model.Cells.{isBroken}
-use Rattle.rounds.specs.Model.Rounds.{isIn}
+use Rattle.rounds.specs.Model.TableRounds.{isIn}
 use Rattle.rounds.proofs.Start.{leads-broken, leads-back, leads-else}
 use borrow.Author.Needs.{needs}
 use Rattle.rounds.proofs.cell_leads.Statement.{statement}

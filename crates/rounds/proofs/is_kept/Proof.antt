@@ -1,6 +1,6 @@
 -- `rounds::is_kept`. Assumes nothing.
 use mathlib.Core.Path.{refl}
-use Rattle.rounds.specs.Model.Rounds.{isIn}
+use Rattle.rounds.specs.Model.TableRounds.{isIn}
 use borrow.Author.Needs.{needs}
 use Rattle.rounds.proofs.is_kept.Statement.{statement}
 use Rattle.rounds.proofs.is_kept.Tie as tie

@@ -6,17 +6,17 @@ use Prim.Native.Nat.{_-_}
 use native.Mathlib.Omega.{arith}
 use Rattle.records.specs.Laws.Tests.{said, said-no, said-yes}
 use Rattle.rounds.specs.Laws.Masks.{allows, mask-bits, mask-lost}
-use Rattle.rounds.specs.Laws.Cells.{in-row, leads-at}
+use Rattle.rounds.specs.Laws.CellPlaces.{in-row, leads-at}
 use Rattle.rounds.proofs.Masking.{Masking, begin, fits, bit-on, bit-off, end}
 use Rattle.rounds.proofs.mask_of.Statement.{statement}
 use Rattle.rounds.proofs.mask_of.Tie as tie
 
 abbrev Inv-loop : tie.InvT-loop
-Inv-loop cells dropped n inputs outputs k i mask₀ o₀ mask o =
-    Masking (allows cells dropped inputs outputs k i) outputs mask o
+Inv-loop cells dropped n ins outs k i mask₀ o₀ mask o =
+    Masking (allows cells dropped ins outs k i) outs mask o
 
 abbrev μ-loop : tie.MeasureT-loop
-μ-loop cells dropped n inputs outputs k i mask₀ o₀ mask o = outputs - o
+μ-loop cells dropped n ins outs k i mask₀ o₀ mask o = outs - o
 
 -- the places that the needs look back to
 abbrev entry : tie.In-loop Inv-loop μ-loop → tie.Start Inv-loop μ-loop
@@ -26,7 +26,7 @@ entry c = c .before .before .before .before .before .before
 allowed : (c : tie.After-leads-to-kept Inv-loop μ-loop) {b : Bool} → c .leads-to-kept .result ≡ b →
     let at = c .before .before in
     let a = entry at .args in
-    allows (a .cells .now) (a .dropped .now) (a .inputs) (a .outputs) (a .k) (a .i) (at .before .loop .o) ≡ b
+    allows (a .cells .now) (a .dropped .now) (a .ins) (a .outs) (a .k) (a .i) (at .before .loop .o) ≡ b
 unfolding allows
 allowed c e =
     let passed = c .before .before .before .before in

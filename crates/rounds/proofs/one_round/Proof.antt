@@ -11,11 +11,11 @@ use Rattle.rounds.proofs.one_round.Statement.{statement}
 use Rattle.rounds.proofs.one_round.Tie as tie
 
 abbrev Inv-loop : tie.InvT-loop
-Inv-loop cells dropped₀ n inputs outputs round lost₀ k₀ dropped lost k =
-    Turn cells n inputs outputs round dropped₀ dropped lost k
+Inv-loop cells dropped₀ n ins outs round lost₀ k₀ dropped lost k =
+    Turn cells n ins outs round dropped₀ dropped lost k
 
 abbrev μ-loop : tie.MeasureT-loop
-μ-loop cells dropped₀ n inputs outputs round lost₀ k₀ dropped lost k = n - k
+μ-loop cells dropped₀ n ins outs round lost₀ k₀ dropped lost k = n - k
 
 -- the places that the needs look back to
 abbrev head : tie.After-round-drops Inv-loop μ-loop → tie.At-loop Inv-loop μ-loop
@@ -27,7 +27,7 @@ entry c = c .before .before .before
 -- what the call answered
 dropping : (c : tie.After-round-drops Inv-loop μ-loop) {b : Bool} → c .round-drops .result ≡ b →
     let a = entry (head c) .args in
-    drops (a .cells .now) (a .inputs) (a .outputs) (a .round) (head c .loop .dropped) (head c .loop .k) ≡ b
+    drops (a .cells .now) (a .ins) (a .outs) (a .round) (head c .loop .dropped) (head c .loop .k) ≡ b
 dropping c e = said (c .round-drops .ensures) e
 
 loop-holds : tie.Need-loop-holds Inv-loop μ-loop

@@ -5,10 +5,10 @@ use Rattle.rounds.proofs.settle.Statement.{statement}
 use Rattle.rounds.proofs.settle.Tie as tie
 
 abbrev Inv-loop : tie.InvT-loop
-Inv-loop cells dropped₀ n inputs outputs kept₀ made₀ dropped kept made = Settling cells n inputs outputs dropped₀ dropped kept made
+Inv-loop cells dropped₀ n ins outs kept₀ made₀ dropped kept made = Settling cells n ins outs dropped₀ dropped kept made
 
 abbrev μ-loop : tie.MeasureT-loop
-μ-loop cells dropped₀ n inputs outputs kept₀ made₀ dropped kept made = kept
+μ-loop cells dropped₀ n ins outs kept₀ made₀ dropped kept made = kept
 
 -- the places that the needs look back to
 abbrev entry : tie.After-slice-known2 Inv-loop μ-loop → tie.Start Inv-loop μ-loop
@@ -26,7 +26,7 @@ turned : (c : tie.After-slice-known3 Inv-loop μ-loop) →
     let a = entry (head c .before) .args in
     let at = head c .loop in
     let made = c .before .before .one-round in
-    Turned (a .cells .now) (a .n) (a .inputs) (a .outputs) (a .dropped .now) (head c .before .before .before .clear-front16 .last .0)
+    Turned (a .cells .now) (a .n) (a .ins) (a .outs) (a .dropped .now) (head c .before .before .before .clear-front16 .last .0)
     (at .dropped) (made .last .1 .0) (at .kept) (at .made) (made .result)
 turned c = record { began = begun (head c .before); inv = head c .loop .inv; turn = c .before .before .one-round .ensures }
 

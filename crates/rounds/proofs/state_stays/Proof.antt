@@ -9,26 +9,26 @@ use borrow.Author.Count.{below-none, below-more}
 use Rattle.records.specs.Laws.Tests.{said}
 use Rattle.records.specs.Meaning.Bounded.{all}
 use Rattle.records.specs.Laws.Bounded.{all-none, all-more, any-of}
-use Rattle.rounds.specs.Model.Rounds.{cellAt, leadsIn, answered}
+use Rattle.rounds.specs.Model.TableRounds.{cellAt, leadsIn, answered}
 use Rattle.rounds.specs.Model.InPlace.{atStart}
-use Rattle.rounds.specs.Laws.Cells.{in-row, leads-at}
+use Rattle.rounds.specs.Laws.CellPlaces.{in-row, leads-at}
 use Rattle.rounds.proofs.Search.{all-passed, one-failed}
 use Rattle.rounds.proofs.state_stays.Statement.{statement}
 use Rattle.rounds.proofs.state_stays.Tie as tie
 
 abbrev Inv-search : tie.InvT-search
-Inv-search cells dropped n inputs outputs k round i o₀ o =
-    (o ≤ outputs) × ((p : ℕ) → p < o → leadsIn cells (atStart round dropped) (cellAt inputs outputs k i p) ≡ false)
+Inv-search cells dropped n ins outs k round i o₀ o =
+    (o ≤ outs) × ((p : ℕ) → p < o → leadsIn cells (atStart round dropped) (cellAt ins outs k i p) ≡ false)
 
 abbrev μ-search : tie.MeasureT-search
-μ-search cells dropped n inputs outputs k round i o₀ o = outputs - o
+μ-search cells dropped n ins outs k round i o₀ o = outs - o
 
 abbrev Inv-inputs : tie.InvT-inputs
-Inv-inputs cells dropped n inputs outputs k round i₀ i =
-    (i ≤ inputs) × (all i (answered cells (atStart round dropped) inputs outputs k) ≡ true)
+Inv-inputs cells dropped n ins outs k round i₀ i =
+    (i ≤ ins) × (all i (answered cells (atStart round dropped) ins outs k) ≡ true)
 
 abbrev μ-inputs : tie.MeasureT-inputs
-μ-inputs cells dropped n inputs outputs k round i₀ i = inputs - i
+μ-inputs cells dropped n ins outs k round i₀ i = ins - i
 
 -- the places that the needs look back to
 abbrev entry : tie.In-search Inv-search μ-search Inv-inputs μ-inputs → tie.Start Inv-search μ-search Inv-inputs μ-inputs
@@ -42,7 +42,7 @@ looked : (c : tie.After-cell-leads Inv-search μ-search Inv-inputs μ-inputs) {b
     let at = c .before .before in
     let a = entry at .args in
     leadsIn (a .cells .now) (atStart (a .round) (a .dropped .now))
-    (cellAt (a .inputs) (a .outputs) (a .k) (input at .inputs .i) (at .before .search .o))
+    (cellAt (a .ins) (a .outs) (a .k) (input at .inputs .i) (at .before .search .o))
     ≡ b
 looked c e = rw (← c .before .cell-at .ensures) (said (c .cell-leads .ensures) e)
 

@@ -7,7 +7,7 @@ use Prim.Native.Nat.{ℕ, _-_}
 use lib.Dec.{eqb}
 use lib.ListN.{length, getD}
 use Rattle.records.specs.Model.Lists.{put}
-use Rattle.rounds.specs.Model.Rounds.{isIn, stays, round, keptCount}
+use Rattle.rounds.specs.Model.TableRounds.{isIn, stays, round, keptCount}
 
 -- the entries at the start of round r: the states that it has dropped so far are in
 unfoldable pub atStart : ℕ → List ℕ → List ℕ
@@ -15,9 +15,9 @@ atStart r dropped = put dropped (length dropped) (λ k. cond (eqb (getD dropped 
 
 -- round r, under way, drops a state: it is in, and has an input with no step to a state that was in at the start
 unfoldable pub drops : List ℕ → ℕ → ℕ → ℕ → List ℕ → ℕ → Bool
-drops cells inputs outputs r dropped k = isIn dropped k && not (stays cells (atStart r dropped) inputs outputs k)
+drops cells ins outs r dropped k = isIn dropped k && not (stays cells (atStart r dropped) ins outs k)
 
 -- what a round promises: the entries, and how many states it dropped
-pub record Rounded (cells : List ℕ) (n inputs outputs r : ℕ) (before after : List ℕ) (lost : ℕ) : Type 0 where
-  pub entries : after ≡ round cells n inputs outputs r before
+pub record Rounded (cells : List ℕ) (n ins outs r : ℕ) (before after : List ℕ) (lost : ℕ) : Type 0 where
+  pub entries : after ≡ round cells n ins outs r before
   pub counted : lost ≡ keptCount n before - keptCount n after

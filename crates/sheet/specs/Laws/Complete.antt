@@ -18,18 +18,18 @@ use Rattle.records.specs.Meaning.Numbers.{Bytes, u16At}
 use Rattle.records.specs.Laws.Numbers.{bytes-small, bytes-append, bytes-of, bytes-cat}
 use Rattle.records.specs.Meaning.Records.{sizeAt, kindAt}
 use Rattle.records.specs.Meaning.Limits.{maxLines, maxHorizon, maxMonitorStates, horizonOk}
-use Rattle.sheet.specs.Meaning.Decoded.{Automaton, Decoded, noAutomaton, monitorOf, inputsOf, inputLines, lettersOf, letters, HeadOk, HorizonOk, MonitorOk, SheetOk, encodeHead, encodeMonitor, encode}
+use Rattle.sheet.specs.Meaning.Decoded.{Automaton, Decoded, noAutomaton, monitorOf, guardLines, inputLines, lettersRead, letters, HeadOk, HorizonOk, MonitorOk, SheetOk, encodeHead, encodeMonitor, encode}
 use Rattle.sheet.specs.Meaning.Grounds.{verdictNumber}
 use Rattle.sheet.specs.Model.Where.{automaton, placed, decoded}
 use Rattle.sheet_fields.specs.Meaning.Places.{modeAt, siteAt, outputsAt, horizonAt, matchingAt, literalsFrom}
 use Rattle.sheet_fields.specs.Meaning.Head.{headOk}
-use Rattle.sheet_fields.specs.Laws.Facts.{site-le}
-use Rattle.sheet.specs.Model.Head.{headSheet}
+use Rattle.sheet_fields.specs.Laws.FieldFacts.{site-le}
+use Rattle.sheet.specs.Model.HeadRecord.{headSheet}
 use Rattle.sheet.specs.Model.Reader.{reading}
 use Rattle.sheet.specs.Laws.Turns.{offset, upto, Turn, Chain, chain-reads, placed-at}
-use Rattle.sheet.specs.Laws.Judged.{Numbers, Literals, head-test}
+use Rattle.sheet.specs.Laws.Judged.{JudgedNumbers, Literals, head-test}
 use Rattle.sheet.specs.Laws.Sound.{literal-is}
-use Rattle.sheet.specs.Laws.Written.{rowBytes, length-monitor, size-back, kind-back, monitor-passes, monitor-back}
+use Rattle.sheet.specs.Laws.MonitorBytes.{rowBytes, length-monitor, size-back, kind-back, monitor-passes, monitor-back}
 
 -- ---- the head
 
@@ -70,7 +70,7 @@ module _ (s r : List ℕ) (d : Decoded) (o : HeadOk d) (e : s ≡ encodeHead d +
       (getD-append-add (n % 256 ∷ n / 256 ∷ 1 ∷ 0 ∷ d .mode ∷ d .site ∷ d .outputs ∷ d .horizon ∷ d .matching ∷ []) (d .literals ++ r) j 0
       ∙ List·getD-append (d .literals) r 0 j (omega (arith, o .literals)))
 
-  numbers : Numbers (modeAt s 4) (siteAt s 4) (outputsAt s 4) (matchingAt s 4) (sizeAt s 0)
+  numbers : JudgedNumbers (modeAt s 4) (siteAt s 4) (outputsAt s 4) (matchingAt s 4) (sizeAt s 0)
   numbers =
       rw (mode-back, site-back, outputs-back, matching-back, head-size)
       (record {
@@ -96,7 +96,7 @@ module _ (s r : List ℕ) (d : Decoded) (o : HeadOk d) (e : s ≡ encodeHead d +
   head-passes : headOk s 4 (sizeAt s 0) ≡ true
   head-passes = head-test s (sizeAt s 0) numbers literals
 
-  horizon-passes : HorizonOk d → horizonOk (inputsOf (modeAt s 4) (siteAt s 4) (outputsAt s 4)) (horizonAt s 4) ≡ true
+  horizon-passes : HorizonOk d → horizonOk (guardLines (modeAt s 4) (siteAt s 4) (outputsAt s 4)) (horizonAt s 4) ≡ true
   unfolding horizonOk
   horizon-passes h =
       rw (
@@ -240,7 +240,7 @@ decode-encode d o = rw (chain-reads (encode d) (length (d .monitors)) (chain d o
 
 -- a monitor reads at most 64 letters
 letters-most : (d : Decoded) → HeadOk d → (a : Automaton) → letters d a ≤ 64
-unfolding lettersOf
+unfolding lettersRead
 letters-most d o a =
     by-test (eqb (a .role) 2) (λ e. rw e (omega arith))
     (λ e.

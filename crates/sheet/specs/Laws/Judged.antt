@@ -13,7 +13,7 @@ use Rattle.records.specs.Laws.Tests.{both-ways, by-test, and-left, and-right, o
 use Rattle.records.specs.Laws.Bounded.{all-at, all-of}
 use Rattle.records.specs.Meaning.Limits.{maxInputs, maxOutputs, maxLines, maxMonitorStates, literalEnd, linesOk}
 use Rattle.records.specs.Laws.Limits.{Lines, lines-facts}
-use Rattle.sheet.specs.Meaning.Decoded.{inputsOf, lettersOf}
+use Rattle.sheet.specs.Meaning.Decoded.{guardLines, lettersRead}
 use Rattle.sheet_fields.specs.Meaning.Places.{headNumbers, modeAt, siteAt, outputsAt, matchingAt, literalsFrom, monitorNumbers, roleAt, weightAt, statesAt, firstAt, acceptFrom, rowsFrom}
 use Rattle.sheet_fields.specs.Meaning.Head.{siteOk, freshLine, literalOk, literalsOk, numbersOk, headOk}
 use Rattle.sheet_fields.specs.Meaning.Monitor.{roleOk, statesOk, bytesMost, monitorOk}
@@ -21,13 +21,13 @@ use Rattle.sheet_fields.specs.Meaning.Monitor.{roleOk, statesOk, bytesMost, mon
 -- ---- the head
 
 -- a head's numbers
-pub record Numbers (mode site outputs matching size : ℕ) : Type 0 where
+pub record JudgedNumbers (mode site outputs matching size : ℕ) : Type 0 where
   pub mode-most : mode ≤ 1
   pub site-most : site ≤ maxInputs
   pub outputs-least : 1 ≤ outputs
   pub outputs-most : outputs ≤ maxOutputs
-  pub inputs : inputsOf mode site outputs ≤ maxInputs
-  pub lines : inputsOf mode site outputs + outputs ≤ maxLines
+  pub inputs : guardLines mode site outputs ≤ maxInputs
+  pub lines : guardLines mode site outputs + outputs ≤ maxLines
   pub size-is : size ≡ headNumbers + outputs
   pub unmatched : mode ≡ 0 → matching ≡ 0
 
@@ -38,10 +38,10 @@ pub record Literals (s : List ℕ) (at outputs : ℕ) : Type 0 where
   pub once : (i j : ℕ) → i < j → j < outputs → getD s (at + i) 0 % 8 ≡ getD s (at + j) 0 % 8 → ⊥
 
 numbers-facts : (mode site outputs matching size : ℕ) → numbersOk mode site outputs matching size ≡ true
-    → Numbers mode site outputs matching size
+    → JudgedNumbers mode site outputs matching size
 unfolding numbersOk siteOk
 numbers-facts m i o w size e =
-    let l : Lines m (inputsOf m i o) o = lines-facts m (inputsOf m i o) o (search (and-left, and-right) depth 9) in
+    let l : Lines m (guardLines m i o) o = lines-facts m (guardLines m i o) o (search (and-left, and-right) depth 9) in
     record {
       mode-most = l .mode-is;
       site-most = leb-true i maxInputs (search (and-left, and-right) depth 9);
@@ -54,13 +54,13 @@ numbers-facts m i o w size e =
     }
 
 -- in mode 1 the guard reads the outputs' lines too
-shield : (mode site outputs : ℕ) → mode ≤ 1 → eqb mode 0 || leb outputs (inputsOf mode site outputs) ≡ true
-unfolding inputsOf
+shield : (mode site outputs : ℕ) → mode ≤ 1 → eqb mode 0 || leb outputs (guardLines mode site outputs) ≡ true
+unfolding guardLines
 shield m i o h =
     by-test (eqb m 0) (λ e. rw e)
     (λ e. rw (e, eq-eqb m 1 (omega (arith, eqb-false m 0 e))) (le-leb o (i + o) (omega arith)))
 
-numbers-test : (mode site outputs matching size : ℕ) → Numbers mode site outputs matching size
+numbers-test : (mode site outputs matching size : ℕ) → JudgedNumbers mode site outputs matching size
     → numbersOk mode site outputs matching size ≡ true
 unfolding numbersOk siteOk linesOk
 numbers-test m i o w size n =
@@ -68,9 +68,9 @@ numbers-test m i o w size n =
       le-leb i maxInputs (n .site-most),
       le-leb o maxOutputs (n .outputs-most),
       le-leb m 1 (n .mode-most),
-      le-leb (inputsOf m i o) maxInputs (n .inputs),
+      le-leb (guardLines m i o) maxInputs (n .inputs),
       le-leb 1 o (n .outputs-least),
-      le-leb (inputsOf m i o + o) maxLines (n .lines),
+      le-leb (guardLines m i o + o) maxLines (n .lines),
       shield m i o (n .mode-most),
       eq-eqb size (headNumbers + o) (n .size-is),
     )
@@ -103,16 +103,16 @@ literals-test s at o l =
     (λ i k. rw (ne-eqb (getD s (at + i) 0 % 8) (getD s (at + j) 0 % 8) (l .once i j k h)))))
 
 -- what a head that passes its tests has
-pub head-facts : (s : List ℕ) (size : ℕ) → headOk s 4 size ≡ true
-    → Numbers (modeAt s 4) (siteAt s 4) (outputsAt s 4) (matchingAt s 4) size × Literals s (literalsFrom 4) (outputsAt s 4)
+pub head-judged : (s : List ℕ) (size : ℕ) → headOk s 4 size ≡ true
+    → JudgedNumbers (modeAt s 4) (siteAt s 4) (outputsAt s 4) (matchingAt s 4) size × Literals s (literalsFrom 4) (outputsAt s 4)
 unfolding headOk
-head-facts s size e = (
+head-judged s size e = (
   numbers-facts (modeAt s 4) (siteAt s 4) (outputsAt s 4) (matchingAt s 4) size (search (and-left, and-right) depth 9),
   literals-facts s (literalsFrom 4) (outputsAt s 4) (search (and-left, and-right) depth 9),
 )
 
 -- and that such a head passes them
-pub head-test : (s : List ℕ) (size : ℕ) → Numbers (modeAt s 4) (siteAt s 4) (outputsAt s 4) (matchingAt s 4) size
+pub head-test : (s : List ℕ) (size : ℕ) → JudgedNumbers (modeAt s 4) (siteAt s 4) (outputsAt s 4) (matchingAt s 4) size
     → Literals s (literalsFrom 4) (outputsAt s 4) → headOk s 4 size ≡ true
 unfolding headOk
 head-test s size n l =
@@ -178,11 +178,11 @@ role-test m r w h =
 
 -- what a monitor that passes its tests has
 pub monitor-facts : (s : List ℕ) (mode site outputs at size : ℕ) → monitorOk s mode site outputs at size ≡ true
-    → Role mode (roleAt s at) (weightAt s at) × Body s at (lettersOf (roleAt s at) site outputs) size
+    → Role mode (roleAt s at) (weightAt s at) × Body s at (lettersRead (roleAt s at) site outputs) size
 unfolding monitorOk statesOk bytesMost
 monitor-facts s mode site outputs at size e =
     let n : ℕ = statesAt s at in
-    let w : ℕ = lettersOf (roleAt s at) site outputs in
+    let w : ℕ = lettersRead (roleAt s at) site outputs in
     let least : 1 ≤ statesAt s at = leb-true 1 n (search (and-left, and-right) depth 9) in (
       role-facts mode (roleAt s at) (weightAt s at) (search (and-left, and-right) depth 9),
       record {
@@ -202,11 +202,11 @@ monitor-facts s mode site outputs at size e =
 
 -- and that such a monitor passes them
 pub monitor-test : (s : List ℕ) (mode site outputs at size : ℕ) → Role mode (roleAt s at) (weightAt s at)
-    → Body s at (lettersOf (roleAt s at) site outputs) size → monitorOk s mode site outputs at size ≡ true
+    → Body s at (lettersRead (roleAt s at) site outputs) size → monitorOk s mode site outputs at size ≡ true
 unfolding monitorOk statesOk bytesMost
 monitor-test s mode site outputs at size r b =
     let n : ℕ = statesAt s at in
-    let w : ℕ = lettersOf (roleAt s at) site outputs in
+    let w : ℕ = lettersRead (roleAt s at) site outputs in
     rw (
       le-leb monitorNumbers size (omega (arith, b .size-is)),
       role-test mode (roleAt s at) (weightAt s at) r,

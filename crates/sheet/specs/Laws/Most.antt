@@ -11,7 +11,7 @@ use Rattle.records.specs.Meaning.Limits.{maxMonitors, horizonOk}
 use Rattle.records.specs.declared.cursor.Found.{Found}
 use Rattle.records.specs.declared.cursor.Found.the-variants.{Record, Truncated, End}
 use Rattle.sheet_fields.specs.Meaning.Places.{modeAt, siteAt, outputsAt, horizonAt}
-use Rattle.sheet_fields.specs.Meaning.Lines.{inputsOf}
+use Rattle.sheet_fields.specs.Meaning.Lines.{guardLines}
 use Rattle.sheet_fields.specs.Meaning.Head.{headOk}
 use Rattle.sheet_fields.specs.Meaning.Monitor.{monitorOk}
 use Rattle.sheet.specs.Meaning.Refusals.{firstNumber, headNumber, monitorNumber, laterNumber, recordsNumber, sheetNumber}
@@ -33,7 +33,7 @@ head-most : (s : List ℕ) (start size : ℕ) → headNumber s start size ≤ 6
 unfolding headNumber
 head-most s start size =
     either (headOk s start size) _ 3
-    (either (horizonOk (inputsOf (modeAt s start) (siteAt s start) (outputsAt s start)) (horizonAt s start)) 0 6 (omega arith) (omega arith))
+    (either (horizonOk (guardLines (modeAt s start) (siteAt s start) (outputsAt s start)) (horizonAt s start)) 0 6 (omega arith) (omega arith))
     (omega arith)
 
 monitor-most : (s : List ℕ) (head start size : ℕ) → monitorNumber s head start size ≤ 6

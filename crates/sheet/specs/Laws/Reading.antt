@@ -8,7 +8,7 @@ use Rattle.sheet.specs.Meaning.Decoded.{Decoded, SheetOk, encode}
 use Rattle.sheet.specs.Model.Where.{decoded}
 use Rattle.sheet.specs.Model.Reader.{reading}
 use Rattle.sheet.specs.Promises.Reader.{Reads}
-use Rattle.sheet.specs.Laws.Agree.{verdict-number}
+use Rattle.sheet.specs.Laws.Verdicts.{verdict-number}
 use Rattle.sheet.specs.Laws.Sound.{accepted-fits, accepted-same}
 use Rattle.sheet.specs.Laws.Complete.{encode-accepted, decode-encode}
 use Rattle.sheet.specs.declared.layout.Reading.{Reading}

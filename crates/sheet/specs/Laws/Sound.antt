@@ -16,16 +16,16 @@ use Rattle.records.specs.Meaning.Records.{sizeAt, kindAt, bodyAt, endAt}
 use Rattle.records.specs.Laws.Cursor.{header-there}
 use Rattle.records.specs.Meaning.Limits.{maxOutputs, maxMonitorStates}
 use Rattle.records.specs.Laws.Limits.{Horizon, horizon-facts}
-use Rattle.sheet.specs.Meaning.Decoded.{Decoded, monitorOf, inputsOf, lettersOf, HeadOk, HorizonOk, MonitorOk, SheetOk, encodeHead, encodeMonitor, encode}
+use Rattle.sheet.specs.Meaning.Decoded.{Decoded, monitorOf, guardLines, lettersRead, HeadOk, HorizonOk, MonitorOk, SheetOk, encodeHead, encodeMonitor, encode}
 use Rattle.sheet.specs.Meaning.Grounds.{verdictNumber}
 use Rattle.sheet.specs.Model.Where.{width, automaton, decoded, Fits}
 use Rattle.sheet_fields.specs.Meaning.Places.{modeAt, siteAt, outputsAt, horizonAt, matchingAt, literalsFrom, monitorNumbers, roleAt, weightAt, statesAt, firstAt}
 use Rattle.sheet_fields.specs.Model.Head.{literalAt}
-use Rattle.sheet.specs.Model.Head.{headSheet}
-use Rattle.sheet.specs.Model.Monitor.{monitorAt}
+use Rattle.sheet.specs.Model.HeadRecord.{headSheet}
+use Rattle.sheet.specs.Model.MonitorRecord.{monitorAt}
 use Rattle.sheet.specs.Model.Reader.{reading}
 use Rattle.sheet.specs.Laws.Turns.{offset, upto, Chain, chain-of, placed-at, offset-up}
-use Rattle.sheet.specs.Laws.Judged.{Numbers, Literals, Role, Body, head-facts, monitor-facts}
+use Rattle.sheet.specs.Laws.Judged.{JudgedNumbers, Literals, Role, Body, head-judged, monitor-facts}
 use Rattle.sheet.specs.Laws.Placed.{length-monitors, monitor-is, length-accept, length-rows, accept-at, length-row, next-at, accept-is, rows-are}
 use Rattle.sheet.specs.declared.layout.Monitor.{Monitor}
 use Rattle.sheet.specs.declared.layout.Sheet.{Sheet}
@@ -44,7 +44,7 @@ literal-at : (s : List ℕ) (k j : ℕ) → j < outputsAt s 4 → outputsAt s 4 
 unfolding decoded upto
 literal-at s k j h m = getD-tab (outputsAt s 4) (λ i. getD (headSheet s 4 .literals) i 0) j 0 h ∙ literal-is s j h m
 
-head-ok : (s : List ℕ) (k size : ℕ) → Bytes s → Numbers (modeAt s 4) (siteAt s 4) (outputsAt s 4) (matchingAt s 4) size
+head-ok : (s : List ℕ) (k size : ℕ) → Bytes s → JudgedNumbers (modeAt s 4) (siteAt s 4) (outputsAt s 4) (matchingAt s 4) size
     → Literals s (literalsFrom 4) (outputsAt s 4) → HeadOk (decoded s (upto s k))
 unfolding decoded upto
 head-ok s k size b n l =
@@ -63,12 +63,12 @@ head-ok s k size b n l =
       literal-once = λ i j u h e. l .once i j u h (rw (literal-at s k i (omega arith) (n .outputs-most), literal-at s k j h (n .outputs-most)) at e);
     }
 
-horizon-ok : (s : List ℕ) (k : ℕ) → Horizon (inputsOf (modeAt s 4) (siteAt s 4) (outputsAt s 4)) (horizonAt s 4) → HorizonOk (decoded s (upto s k))
+horizon-ok : (s : List ℕ) (k : ℕ) → Horizon (guardLines (modeAt s 4) (siteAt s 4) (outputsAt s 4)) (horizonAt s 4) → HorizonOk (decoded s (upto s k))
 unfolding decoded upto
 horizon-ok s k h = record { most = h .most; product-most = h .product-most }
 
 -- the head's bytes
-head-bytes : (s : List ℕ) (k : ℕ) → Bytes s → kindAt s 0 ≡ 1 → Numbers (modeAt s 4) (siteAt s 4) (outputsAt s 4) (matchingAt s 4) (sizeAt s 0)
+head-bytes : (s : List ℕ) (k : ℕ) → Bytes s → kindAt s 0 ≡ 1 → JudgedNumbers (modeAt s 4) (siteAt s 4) (outputsAt s 4) (matchingAt s 4) (sizeAt s 0)
     → encodeHead (decoded s (upto s k)) ≡ part s 0 (offset s 0)
 unfolding encodeHead decoded upto offset
 head-bytes s k b e n =
@@ -90,7 +90,7 @@ record PlaceOk (s : List ℕ) (h : Sheet) (m : Monitor) : Type 0 where
   next : (k : ℕ) → k < m .states * width h m → getD s (m .rows + k) 0 < m .states
 
 place-ok : (s : List ℕ) (h : Sheet) (at size : ℕ) → Bytes s → Role (h .mode) (roleAt s at) (weightAt s at)
-    → Body s at (lettersOf (roleAt s at) (h .site) (h .outputs)) size → PlaceOk s h (monitorAt s at)
+    → Body s at (lettersRead (roleAt s at) (h .site) (h .outputs)) size → PlaceOk s h (monitorAt s at)
 unfolding monitorAt
 place-ok s h at size b r y =
     record {
@@ -135,13 +135,13 @@ part-body s at n w =
 
 -- the monitor's bytes
 monitor-bytes : (s : List ℕ) (h : Sheet) (at size : ℕ) → Bytes s → sizeAt s at ≡ size → kindAt s at ≡ 2
-    → Body s (bodyAt at) (lettersOf (roleAt s (bodyAt at)) (h .site) (h .outputs)) size
+    → Body s (bodyAt at) (lettersRead (roleAt s (bodyAt at)) (h .site) (h .outputs)) size
     → encodeMonitor (decoded s h) (automaton s h (monitorAt s (bodyAt at))) ≡ part s at (4 + size)
 unfolding encodeMonitor decoded automaton monitorAt
 monitor-bytes s h at size b e f y =
     let m : Monitor = monitorAt s (bodyAt at) in
     let n : ℕ = statesAt s (bodyAt at) in
-    let w : ℕ = lettersOf (roleAt s (bodyAt at)) (h .site) (h .outputs) in
+    let w : ℕ = lettersRead (roleAt s (bodyAt at)) (h .site) (h .outputs) in
     rw (
       length-accept s h m,
       rows-are s h m,
@@ -157,7 +157,7 @@ monitor-bytes s h at size b e f y =
 module _ (s : List ℕ) (b : Bytes s) (k : ℕ) (c : Chain s k) where
   body : (j : ℕ) → j < k
       → Role (modeAt s 4) (roleAt s (bodyAt (offset s j))) (weightAt s (bodyAt (offset s j)))
-      × Body s (bodyAt (offset s j)) (lettersOf (roleAt s (bodyAt (offset s j))) (siteAt s 4) (outputsAt s 4)) (sizeAt s (offset s j))
+      × Body s (bodyAt (offset s j)) (lettersRead (roleAt s (bodyAt (offset s j))) (siteAt s 4) (outputsAt s 4)) (sizeAt s (offset s j))
   unfolding upto
   body j l = monitor-facts s (upto s j .mode) (upto s j .site) (upto s j .outputs) (bodyAt (offset s j)) (sizeAt s (offset s j)) (c .turn j l .ok)
 
@@ -168,11 +168,11 @@ module _ (s : List ℕ) (b : Bytes s) (k : ℕ) (c : Chain s k) where
   sheet-ok : SheetOk (decoded s (upto s k))
   unfolding upto
   sheet-ok =
-      let f : Numbers (modeAt s 4) (siteAt s 4) (outputsAt s 4) (matchingAt s 4) (sizeAt s 0) × Literals s (literalsFrom 4) (outputsAt s 4) = head-facts s (sizeAt s 0) (c .head) in
+      let f : JudgedNumbers (modeAt s 4) (siteAt s 4) (outputsAt s 4) (matchingAt s 4) (sizeAt s 0) × Literals s (literalsFrom 4) (outputsAt s 4) = head-judged s (sizeAt s 0) (c .head) in
       let n : length (decoded s (upto s k) .monitors) ≡ k = length-monitors s (upto s k) in
       record {
         head = head-ok s k (sizeAt s 0) b (f .0) (f .1);
-        horizon = horizon-ok s k (horizon-facts (inputsOf (modeAt s 4) (siteAt s 4) (outputsAt s 4)) (horizonAt s 4) (c .horizon));
+        horizon = horizon-ok s k (horizon-facts (guardLines (modeAt s 4) (siteAt s 4) (outputsAt s 4)) (horizonAt s 4) (c .horizon));
         count = omega (arith, c .count);
         monitor = λ j l.
             let u : j < k = omega arith in
@@ -191,7 +191,7 @@ module _ (s : List ℕ) (b : Bytes s) (k : ℕ) (c : Chain s k) where
   blocks : (j : ℕ) → j ≤ k
       → encodeHead (decoded s (upto s k)) ++ cat j (λ i. encodeMonitor (decoded s (upto s k)) (monitorOf (decoded s (upto s k)) i)) ≡ part s 0 (offset s j)
   unfolding cat offset
-  blocks zero l = rw append-nil (head-bytes s k b (c .kind) (head-facts s (sizeAt s 0) (c .head) .0))
+  blocks zero l = rw append-nil (head-bytes s k b (c .kind) (head-judged s (sizeAt s 0) (c .head) .0))
   blocks (suc j) l =
       let d : Decoded = decoded s (upto s k) in
       sym (append-assoc (encodeHead d) (cat j (λ i. encodeMonitor d (monitorOf d i))) (encodeMonitor d (monitorOf d j)))

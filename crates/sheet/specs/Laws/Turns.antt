@@ -17,17 +17,17 @@ use Rattle.records.specs.Laws.Bounded.{cases-suc}
 use Rattle.records.specs.Meaning.Records.{sizeAt, kindAt, bodyAt, endAt}
 use Rattle.records.specs.Laws.Cursor.{read-cases, read-end, read-record}
 use Rattle.records.specs.Meaning.Limits.{maxMonitors, horizonOk}
-use Rattle.sheet.specs.Meaning.Decoded.{inputsOf}
+use Rattle.sheet.specs.Meaning.Decoded.{guardLines}
 use Rattle.sheet.specs.Model.Layout.{noMonitor, accepted, refused, withMonitor}
 use Rattle.sheet.specs.Meaning.Grounds.{verdictNumber}
 use Rattle.sheet.specs.Model.Where.{placed}
 use Rattle.sheet_fields.specs.Meaning.Places.{modeAt, siteAt, outputsAt, horizonAt, matchingAt}
 use Rattle.sheet_fields.specs.Meaning.Head.{headOk}
 use Rattle.sheet_fields.specs.Meaning.Monitor.{monitorOk}
-use Rattle.sheet.specs.Model.Head.{headSheet, readHead}
-use Rattle.sheet.specs.Model.Monitor.{monitorAt, takeMonitor}
+use Rattle.sheet.specs.Model.HeadRecord.{headSheet, readHead}
+use Rattle.sheet.specs.Model.MonitorRecord.{monitorAt, takeMonitor}
 use Rattle.sheet.specs.Model.Reader.{takeRecord, onFound, readRecords, firstFound, reading}
-use Rattle.sheet.specs.Laws.Agree.{chained}
+use Rattle.sheet.specs.Laws.Verdicts.{chained}
 use Rattle.sheet.specs.declared.layout.Monitor.{Monitor}
 use Rattle.sheet.specs.declared.layout.Sheet.{Sheet}
 use Rattle.sheet.specs.declared.layout.Refusal.the-variants.{Misplaced, BadHead, BadMonitor, SeventhMonitor, LongHorizon}
@@ -39,9 +39,9 @@ offset s zero = endAt s 0
 offset s (suc j) = endAt s (offset s j)
 
 -- the places of the first k monitors
-unfoldable pub places : List ℕ → ℕ → List Monitor
-places s zero = replicate maxMonitors noMonitor
-places s (suc k) = set (places s k) k (monitorAt s (bodyAt (offset s k)))
+unfoldable pub monitorPlaces : List ℕ → ℕ → List Monitor
+monitorPlaces s zero = replicate maxMonitors noMonitor
+monitorPlaces s (suc k) = set (monitorPlaces s k) k (monitorAt s (bodyAt (offset s k)))
 
 -- the layout of the head and the first k monitors
 unfoldable pub upto : List ℕ → ℕ → Sheet
@@ -49,12 +49,12 @@ upto s k =
     record {
       mode = modeAt s 4;
       site = siteAt s 4;
-      inputs = inputsOf (modeAt s 4) (siteAt s 4) (outputsAt s 4);
+      inputs = guardLines (modeAt s 4) (siteAt s 4) (outputsAt s 4);
       outputs = outputsAt s 4;
       horizon = horizonAt s 4;
       matching = matchingAt s 4;
       literals = headSheet s 4 .literals;
-      monitors = places s k;
+      monitors = monitorPlaces s k;
       count = k;
     }
 
@@ -67,7 +67,7 @@ pub record Turn (s : List ℕ) (j : ℕ) : Type 0 where
 pub record Chain (s : List ℕ) (k : ℕ) : Type 0 where
   pub kind : kindAt s 0 ≡ 1
   pub head : headOk s 4 (sizeAt s 0) ≡ true
-  pub horizon : horizonOk (inputsOf (modeAt s 4) (siteAt s 4) (outputsAt s 4)) (horizonAt s 4) ≡ true
+  pub horizon : horizonOk (guardLines (modeAt s 4) (siteAt s 4) (outputsAt s 4)) (horizonAt s 4) ≡ true
   pub count : k ≤ maxMonitors
   pub turn : (j : ℕ) → j < k → Turn s j
   pub ends : offset s k ≡ length s
@@ -75,26 +75,26 @@ pub record Chain (s : List ℕ) (k : ℕ) : Type 0 where
 -- ---- the layout's parts
 
 upto-none : (s : List ℕ) → headSheet s 4 ≡ upto s 0
-unfolding headSheet upto places
+unfolding headSheet upto monitorPlaces
 upto-none s = refl
 
 upto-more : (s : List ℕ) (k : ℕ) → withMonitor (upto s k) (monitorAt s (bodyAt (offset s k))) ≡ upto s (suc k)
-unfolding withMonitor upto places
+unfolding withMonitor upto monitorPlaces
 upto-more s k = rw (add-one k)
 
-length-places : (s : List ℕ) (k : ℕ) → length (places s k) ≡ maxMonitors
-unfolding places
+length-places : (s : List ℕ) (k : ℕ) → length (monitorPlaces s k) ≡ maxMonitors
+unfolding monitorPlaces
 length-places s zero = refl
-length-places s (suc k) = length-set (places s k) k (monitorAt s (bodyAt (offset s k))) ∙ length-places s k
+length-places s (suc k) = length-set (monitorPlaces s k) k (monitorAt s (bodyAt (offset s k))) ∙ length-places s k
 
 -- monitor j lies where its record begins
 pub placed-at : (s : List ℕ) (k j : ℕ) → k ≤ maxMonitors → j < k → placed (upto s k) j ≡ monitorAt s (bodyAt (offset s j))
-unfolding upto places
+unfolding upto monitorPlaces
 placed-at s zero j h l = absurd (omega arith)
 placed-at s (suc k) j h l =
     cases-suc j k l
-    (λ u. getD-set-other (places s k) k j (monitorAt s (bodyAt (offset s k))) noMonitor (omega arith) ∙ placed-at s k j (omega arith) u)
-    (λ e. rw e (getD-set-same (places s k) k (monitorAt s (bodyAt (offset s k))) noMonitor (rw (length-places s k) (omega arith))))
+    (λ u. getD-set-other (monitorPlaces s k) k j (monitorAt s (bodyAt (offset s k))) noMonitor (omega arith) ∙ placed-at s k j (omega arith) u)
+    (λ e. rw e (getD-set-same (monitorPlaces s k) k (monitorAt s (bodyAt (offset s k))) noMonitor (rw (length-places s k) (omega arith))))
 
 room : (s : List ℕ) (k : ℕ) → k < maxMonitors → upto s k .count < maxMonitors
 unfolding upto
@@ -138,10 +138,10 @@ take-accepts s h kind start size e l m = rw (eq-eqb kind 2 e, lt-leb maxMonitors
 
 head-passes : (s : List ℕ) (start size : ℕ) (next : Sheet → Reading) → chained (readHead s start size) next ≡ 0
     → (headOk s start size ≡ true)
-    × (horizonOk (inputsOf (modeAt s start) (siteAt s start) (outputsAt s start)) (horizonAt s start) ≡ true)
+    × (horizonOk (guardLines (modeAt s start) (siteAt s start) (outputsAt s start)) (horizonAt s start) ≡ true)
 unfolding readHead
 head-passes s start size next =
-    go (headOk s start size) (horizonOk (inputsOf (modeAt s start) (siteAt s start) (outputsAt s start)) (horizonAt s start))
+    go (headOk s start size) (horizonOk (guardLines (modeAt s start) (siteAt s start) (outputsAt s start)) (horizonAt s start))
   where
     go : (a b : Bool)
         → chained (cond a (cond b (accepted (headSheet s start)) (refused LongHorizon)) (refused BadHead)) next ≡ 0
@@ -215,7 +215,7 @@ walk-reaches (suc m) (suc n) s j k q l h t e =
 -- ---- the whole sheet
 
 head-whole : (s : List ℕ) → kindAt s 0 ≡ 1 → headOk s 4 (sizeAt s 0) ≡ true
-    → horizonOk (inputsOf (modeAt s 4) (siteAt s 4) (outputsAt s 4)) (horizonAt s 4) ≡ true → endAt s 0 ≤ length s
+    → horizonOk (guardLines (modeAt s 4) (siteAt s 4) (outputsAt s 4)) (horizonAt s 4) ≡ true → endAt s 0 ≤ length s
     → reading s ≡ readRecords (suc (length s)) s (upto s 0) (offset s 0)
 unfolding reading firstFound readHead offset
 head-whole s k a b h = rw (read-record s 0 h, eq-eqb (kindAt s 0) 1 k, a, b, upto-none s)
@@ -230,7 +230,7 @@ chain-of s e =
     (λ f m.
     by-test (eqb (kindAt s 0) 1)
     (λ t.
-    let passes : (headOk s 4 (sizeAt s 0) ≡ true) × (horizonOk (inputsOf (modeAt s 4) (siteAt s 4) (outputsAt s 4)) (horizonAt s 4) ≡ true) =
+    let passes : (headOk s 4 (sizeAt s 0) ≡ true) × (horizonOk (guardLines (modeAt s 4) (siteAt s 4) (outputsAt s 4)) (horizonAt s 4) ≡ true) =
     head-passes s 4 (sizeAt s 0) (λ h. readRecords (suc (length s)) s h (offset s 0)) (rw (f, t) at e) in
     let kind : kindAt s 0 ≡ 1 = eqb-true (kindAt s 0) 1 t in
     let more : reading s ≡ readRecords (suc (length s)) s (upto s 0) (offset s 0) = head-whole s kind (passes .0) (passes .1) m in

@@ -9,7 +9,7 @@ use Rattle.records.specs.Meaning.Lists.{cat}
 use Rattle.records.specs.Meaning.Records.{header}
 use Rattle.records.specs.Meaning.Limits.{maxInputs, maxOutputs, maxLines, maxHorizon, maxMonitors, maxMonitorStates, literalEnd}
 use Rattle.sheet_fields.specs.Meaning.Places.{headNumbers, monitorNumbers}
-unfoldable pub use Rattle.sheet_fields.specs.Meaning.Lines.{inputsOf, lettersOf}
+unfoldable pub use Rattle.sheet_fields.specs.Meaning.Lines.{guardLines, lettersRead}
 
 -- a monitor: an automaton whose states are the indices of `accept`; `rows` has its next state for each state and letter
 pub record Automaton : Type 0 where
@@ -39,11 +39,11 @@ monitorOf d j = getD (d .monitors) j noAutomaton
 
 -- the guard's input lines: in mode 1 the proposal's lines come on top of the site's
 abbrev pub inputLines : Decoded → ℕ
-inputLines d = inputsOf (d .mode) (d .site) (d .outputs)
+inputLines d = guardLines (d .mode) (d .site) (d .outputs)
 
 -- the letters that a monitor reads
 abbrev pub letters : Decoded → Automaton → ℕ
-letters d a = lettersOf (a .role) (d .site) (d .outputs)
+letters d a = lettersRead (a .role) (d .site) (d .outputs)
 
 -- ---- bounds
 

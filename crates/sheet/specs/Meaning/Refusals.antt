@@ -9,7 +9,7 @@ use lib.ListN.{length}
 use Rattle.records.specs.Meaning.Records.{readAt, foundNumber, sizeAt, kindAt, bodyAt, endAt}
 use Rattle.records.specs.Meaning.Limits.{maxMonitors, horizonOk}
 use Rattle.sheet_fields.specs.Meaning.Places.{modeAt, siteAt, outputsAt, horizonAt}
-use Rattle.sheet_fields.specs.Meaning.Lines.{inputsOf}
+use Rattle.sheet_fields.specs.Meaning.Lines.{guardLines}
 use Rattle.sheet_fields.specs.Meaning.Head.{headOk}
 use Rattle.sheet_fields.specs.Meaning.Monitor.{monitorOk}
 
@@ -30,7 +30,7 @@ headNumber s start size =
     -- 3: head length or field wrong, H aside
     unless (headOk s start size) 3
     -- 6: H above 24, or inputs × H above 24
-    (unless (horizonOk (inputsOf (modeAt s start) (siteAt s start) (outputsAt s start)) (horizonAt s start)) 6 0)
+    (unless (horizonOk (guardLines (modeAt s start) (siteAt s start) (outputsAt s start)) (horizonAt s start)) 6 0)
 
 -- a monitor's, under the head whose body begins at `head`
 unfoldable pub monitorNumber : List ℕ → ℕ → ℕ → ℕ → ℕ

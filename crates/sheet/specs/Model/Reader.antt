@@ -9,8 +9,8 @@ use Rattle.records.specs.Meaning.Records.{readAt}
 use Rattle.records.specs.declared.cursor.Found.{Found}
 use Rattle.records.specs.declared.cursor.Found.the-variants as found
 use Rattle.sheet.specs.Model.Layout.{accepted, refused}
-use Rattle.sheet.specs.Model.Head.{readHead}
-use Rattle.sheet.specs.Model.Monitor.{takeMonitor}
+use Rattle.sheet.specs.Model.HeadRecord.{readHead}
+use Rattle.sheet.specs.Model.MonitorRecord.{takeMonitor}
 use Rattle.sheet.specs.declared.layout.Sheet.{Sheet}
 use Rattle.sheet.specs.declared.layout.Refusal.the-variants.{Truncated, Misplaced}
 use Rattle.sheet.specs.declared.layout.Verdict.{Verdict}
@@ -18,9 +18,9 @@ use Rattle.sheet.specs.declared.layout.Verdict.the-variants.{Accepted, R
 use Rattle.sheet.specs.declared.layout.Reading.{Reading}
 
 -- a verdict, and how the reader goes on from an accepted record
-abbrev pub after : Verdict → Reading → Reading
-after Accepted next = next
-after (Refused g) next = refused g
+abbrev pub afterRecord : Verdict → Reading → Reading
+afterRecord Accepted next = next
+afterRecord (Refused g) next = refused g
 
 -- a record after the head
 unfoldable pub takeRecord : List ℕ → Sheet → ℕ → ℕ → ℕ → Reading
@@ -31,7 +31,7 @@ unfoldable pub onFound : Found → (ℕ → ℕ → ℕ → Reading) → (Sheet 
 onFound found.End take next h = accepted h
 onFound found.Truncated take next h = refused Truncated
 onFound (found.Record kind start size cursor) take next h =
-    after (take kind start size .verdict) (next (take kind start size .sheet) (cursor .at))
+    afterRecord (take kind start size .verdict) (next (take kind start size .sheet) (cursor .at))
 
 unfoldable pub readRecords : ℕ → List ℕ → Sheet → ℕ → Reading
 readRecords zero s h at = refused Truncated
@@ -42,7 +42,7 @@ unfoldable pub firstFound : Found → (ℕ → ℕ → Reading) → (Sheet → �
 firstFound found.End take next = refused Misplaced
 firstFound found.Truncated take next = refused Truncated
 firstFound (found.Record kind start size cursor) take next =
-    cond (eqb kind 1) (after (take start size .verdict) (next (take start size .sheet) (cursor .at))) (refused Misplaced)
+    cond (eqb kind 1) (afterRecord (take start size .verdict) (next (take start size .sheet) (cursor .at))) (refused Misplaced)
 
 -- the whole sheet; each record takes four bytes or more, so its length is fuel enough
 unfoldable pub reading : List ℕ → Reading

@@ -6,14 +6,14 @@ use Prim.Native.Nat.{ℕ, _+_, _*_, _≤_, _<_}
 use lib.ListN.{length, getD}
 use Rattle.records.specs.Meaning.Lists.{tab}
 use Rattle.records.specs.Meaning.Limits.{maxMonitors}
-use Rattle.sheet.specs.Meaning.Decoded.{Automaton, Decoded, SheetOk, lettersOf, inputsOf}
+use Rattle.sheet.specs.Meaning.Decoded.{Automaton, Decoded, SheetOk, lettersRead, guardLines}
 use Rattle.sheet.specs.Model.Layout.{noMonitor}
 use Rattle.sheet.specs.declared.layout.Monitor.{Monitor}
 use Rattle.sheet.specs.declared.layout.Sheet.{Sheet}
 
 -- the letters of a monitor's rows
 abbrev pub width : Sheet → Monitor → ℕ
-width h m = lettersOf (m .role) (h .site) (h .outputs)
+width h m = lettersRead (m .role) (h .site) (h .outputs)
 
 -- the automaton whose accept bytes and rows lie where the layout says
 unfoldable pub automaton : List ℕ → Sheet → Monitor → Automaton
@@ -47,6 +47,6 @@ decoded s h =
 pub record Fits (s : List ℕ) (h : Sheet) : Type 0 where
   pub ok : SheetOk (decoded s h)
   pub count : h .count ≤ maxMonitors
-  pub inputs : h .inputs ≡ inputsOf (h .mode) (h .site) (h .outputs)
+  pub inputs : h .inputs ≡ guardLines (h .mode) (h .site) (h .outputs)
   pub accept : (j : ℕ) → j < h .count → placed h j .accept + placed h j .states ≤ length s
   pub rows : (j : ℕ) → j < h .count → placed h j .rows + placed h j .states * width h (placed h j) ≤ length s

@@ -8,11 +8,11 @@ use lib.ListN.{getD}
 use Rattle.records.specs.Meaning.Bounded.{all}
 use Rattle.records.specs.Meaning.Limits.{maxInputs, maxOutputs, literalEnd, linesOk}
 use Rattle.sheet_fields.specs.Meaning.Places.{headNumbers, modeAt, siteAt, outputsAt, matchingAt, literalsFrom}
-use Rattle.sheet_fields.specs.Meaning.Lines.{inputsOf}
+use Rattle.sheet_fields.specs.Meaning.Lines.{guardLines}
 
 -- mode, site lines and output lines in bounds
 unfoldable pub siteOk : ℕ → ℕ → ℕ → Bool
-siteOk mode site outputs = leb site maxInputs && (leb outputs maxOutputs && linesOk mode (inputsOf mode site outputs) outputs)
+siteOk mode site outputs = leb site maxInputs && (leb outputs maxOutputs && linesOk mode (guardLines mode site outputs) outputs)
 
 -- no literal before the one at j names its line
 unfoldable pub freshLine : List ℕ → ℕ → ℕ → Bool

@@ -8,7 +8,7 @@ use lib.ListN.{getD}
 use Rattle.records.specs.Meaning.Bounded.{all}
 use Rattle.records.specs.Meaning.Limits.{maxMonitorStates}
 use Rattle.sheet_fields.specs.Meaning.Places.{monitorNumbers, roleAt, weightAt, statesAt, firstAt, acceptFrom, rowsFrom}
-use Rattle.sheet_fields.specs.Meaning.Lines.{lettersOf}
+use Rattle.sheet_fields.specs.Meaning.Lines.{lettersRead}
 
 -- role and weight: hard with none, soft with one, a limit in mode 1 with none
 unfoldable pub roleOk : ℕ → ℕ → ℕ → Bool
@@ -30,8 +30,8 @@ unfoldable pub monitorOk : List ℕ → ℕ → ℕ → ℕ → ℕ → ℕ → 
 monitorOk s mode site outputs start size =
     leb monitorNumbers size
     && (roleOk mode (roleAt s start) (weightAt s start)
-    && (statesOk (statesAt s start) (firstAt s start) (lettersOf (roleAt s start) site outputs) size
+    && (statesOk (statesAt s start) (firstAt s start) (lettersRead (roleAt s start) site outputs) size
     -- the accept bytes are 0 or 1
     && (bytesMost s (acceptFrom start) (statesAt s start) 1
     -- a next state for each state and letter
-    && bytesMost s (rowsFrom s start) (statesAt s start * lettersOf (roleAt s start) site outputs) (statesAt s start - 1))))
+    && bytesMost s (rowsFrom s start) (statesAt s start * lettersRead (roleAt s start) site outputs) (statesAt s start - 1))))

@@ -18,18 +18,18 @@ use Rattle.sheet.specs.Meaning.Decoded.{Decoded}
 use Rattle.product.specs.Meaning.Step.{inputsOf, outputsOf, advance, unbroken, firstTuple}
 use Rattle.product.specs.Model.States.{lettersOf}
 use Rattle.product.specs.Meaning.States.{Reached}
-use Rattle.product.specs.Model.Numbered.{stateCount, stateOf, numberOf, cellOf}
-use Rattle.product.specs.Laws.Numbered.{reached-number, number-state, step-number, quiet-round}
+use Rattle.product.specs.Model.ProductNumbering.{stateCount, stateOf, numberOf, cellOf}
+use Rattle.product.specs.Laws.ProductNumbering.{reached-number, number-state, step-number, quiet-round}
 use Rattle.game.specs.Model.Rounds.{keptAfter, droppedBy, may, Quiet}
 use Rattle.game.specs.Laws.Rounds.{quiet-on, kept-dropped, kept-iff, lost-iff, allowed-iff}
 use Rattle.game.specs.Laws.Naming.{Names, dropped-named}
 use Rattle.game.specs.Laws.Reachable.{letter-low, letter-input, letter-output, input-low, output-low, reachable-closed}
 use Rattle.records.specs.Model.Cells.{brokenCell, isBroken}
 use Rattle.records.specs.Laws.Cells.{mark-broken, number-unbroken}
-use Rattle.rounds.specs.Model.Rounds.{Steps, cellAt, isIn, leadsIn, rounds, settled}
+use Rattle.rounds.specs.Model.TableRounds.{Steps, cellAt, isIn, leadsIn, rounds, settled}
 use Rattle.solve.specs.Meaning.Allowed.{Kept, Lost, Allowed}
 use Rattle.solve.specs.Model.Steps.{cellsOf, droppedOf}
-use Rattle.solve.specs.Laws.Numbered.{goes, passes, leads-game, rounds-game}
+use Rattle.solve.specs.Laws.NumberedGame.{goes, passes, leads-game, rounds-game}
 
 -- a table with a place in it has rows that are not empty
 pub some-letter : (n L at : ℕ) → at < n * L → 0 < L

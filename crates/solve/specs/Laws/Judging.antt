@@ -26,11 +26,11 @@ use Rattle.sheet.specs.declared.layout.Refusal.{Refusal}
 use Rattle.sheet.specs.declared.layout.Refusal.the-variants as ground
 use Rattle.sheet.specs.declared.layout.Verdict.the-variants as verdict
 use Rattle.sheet.specs.declared.layout.Reading.{Reading}
-use Rattle.product.specs.Model.Numbered.{stateCount}
-use Rattle.rounds.specs.Model.Rounds.{isIn}
+use Rattle.product.specs.Model.ProductNumbering.{stateCount}
+use Rattle.rounds.specs.Model.TableRounds.{isIn}
 use Rattle.solve.specs.Meaning.Allowed.{TooMany, IsSheet, Accepted}
 use Rattle.solve.specs.Model.Steps.{droppedOf}
-use Rattle.solve.specs.Laws.Grounds.{too-many-iff, start-in, start-out}
+use Rattle.solve.specs.Laws.StateGrounds.{too-many-iff, start-in, start-out}
 use Rattle.solve.specs.Model.Making.{sheetOf, manyNumber, lostNumber, roomNumber, tableNumber, makingNumber, Judges, Answers}
 use Rattle.solve.specs.Meaning.Made.{madeNumber, madeLength}
 use Rattle.solve.specs.Promises.Making.{Written, Unwritten, Makes}
@@ -143,8 +143,8 @@ module _ (table : Decoded → List ℕ) (stateCounts : Decoded → ℕ) (work : 
 fit : (d : Decoded) → (TooMany d → ⊥) → stateCount d ≤ maxStates
 fit d few = elim (decLt maxStates (stateCount d)) [ yes k ↦ absurd (few (too-many-iff d .1 k)) | no k ↦ omega arith ]
 
-pub accepted-fits : {s : List ℕ} {d : Decoded} → Accepted s d → stateCount d ≤ maxStates
-accepted-fits {d = d} a = fit d (a .few)
+pub accepted-layout : {s : List ℕ} {d : Decoded} → Accepted s d → stateCount d ≤ maxStates
+accepted-layout {d = d} a = fit d (a .few)
 
 -- what was written is what the result begins with
 pub written-front : {table before after : List ℕ} {states : ℕ} {r : Made} → Written table states before r after

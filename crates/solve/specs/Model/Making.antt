@@ -12,8 +12,8 @@ use Rattle.sheet.specs.Meaning.Decoded.{Decoded}
 use Rattle.sheet.specs.Model.Where.{decoded}
 use Rattle.sheet.specs.Model.Reader.{reading}
 use Rattle.sheet.specs.Meaning.Refusals.{sheetNumber, firstNumber}
-use Rattle.product.specs.Model.Numbered.{stateCount}
-use Rattle.rounds.specs.Model.Rounds.{isIn}
+use Rattle.product.specs.Model.ProductNumbering.{stateCount}
+use Rattle.rounds.specs.Model.TableRounds.{isIn}
 use Rattle.solve.specs.Model.Steps.{droppedOf}
 use Rattle.solve.specs.declared.made.Made.{Made}
 use Rattle.solve.specs.Meaning.Made.{madeNumber, madeLength, madeStates}

@@ -13,8 +13,8 @@ use Rattle.sheet.specs.declared.layout.Sheet.{Sheet}
 use Rattle.sheet.specs.declared.layout.Refusal.{Refusal}
 use Rattle.sheet.specs.declared.layout.Verdict.{Verdict}
 use Rattle.sheet.specs.declared.layout.Verdict.the-variants.{Accepted, Refused}
-use Rattle.product.specs.Model.Numbered.{stateCount}
-use Rattle.rounds.specs.Model.Rounds.{keptCount}
+use Rattle.product.specs.Model.ProductNumbering.{stateCount}
+use Rattle.rounds.specs.Model.TableRounds.{keptCount}
 use Rattle.solve.specs.Model.Steps.{droppedOf}
 use Rattle.solve.specs.Model.Solve.{Solution}
 use Rattle.solve.specs.Model.Making.{sheetOf, manyNumber, lostNumber, Judges, Answers}

@@ -9,24 +9,24 @@ use Rattle.records.specs.Meaning.Lists.{cat}
 use Rattle.records.specs.Laws.Lists.{cat-ext, length-cat}
 use Rattle.sheet.specs.Meaning.Decoded.{Decoded, inputLines}
 use Rattle.product.specs.Meaning.Step.{inputsOf, outputsOf}
-use Rattle.product.specs.Model.Numbered.{stateCount}
-use Rattle.rounds.specs.Model.Rounds.{maskOf}
+use Rattle.product.specs.Model.ProductNumbering.{stateCount}
+use Rattle.rounds.specs.Model.TableRounds.{maskOf}
 use Rattle.supervisor_table.specs.Meaning.SupervisorTable.{maskTable}
-use Rattle.supervisor_table.specs.Model.Rows.{keptFlag, tableRow, rowLength, tableLength}
-use Rattle.supervisor_table.specs.Laws.Rows.{row-format, length-row}
+use Rattle.supervisor_table.specs.Model.MaskRows.{keptFlag, tableRow, maskRowLength, maskTableLength}
+use Rattle.supervisor_table.specs.Laws.MaskRows.{row-format, length-mask-row}
 use Rattle.solve.specs.Model.Steps.{cellsOf, droppedOf}
-use Rattle.supervisor.specs.Model.Table.{supervisorTable, tableHead, tableOf}
+use Rattle.supervisor.specs.Model.SupervisorOfSheet.{supervisorTable, tableHead, tableOf}
 
 module _ (d : Decoded) (n : ℕ) (cells dropped : List ℕ) where
   -- a table has a head of nine bytes and n rows
-  pub length-table : length (tableOf d n cells dropped) ≡ tableLength (inputsOf d) n
-  unfolding tableOf tableLength tableHead
+  pub length-table : length (tableOf d n cells dropped) ≡ maskTableLength (inputsOf d) n
+  unfolding tableOf maskTableLength tableHead
   length-table =
       omega (
         arith,
         length-append (tableHead d n) (cat n (tableRow cells dropped (inputsOf d) (outputsOf d))),
-        length-cat (rowLength (inputsOf d)) n (tableRow cells dropped (inputsOf d) (outputsOf d))
-            (λ k h. length-row cells dropped (inputsOf d) (outputsOf d) k),
+        length-cat (maskRowLength (inputsOf d)) n (tableRow cells dropped (inputsOf d) (outputsOf d))
+            (λ k h. length-mask-row cells dropped (inputsOf d) (outputsOf d) k),
       )
 
   -- and is written in the format
@@ -39,7 +39,7 @@ module _ (d : Decoded) (n : ℕ) (cells dropped : List ℕ) where
 -- ---- the table of a sheet
 
 module _ (d : Decoded) where
-  pub table-length : length (supervisorTable d) ≡ tableLength (inputsOf d) (stateCount d)
+  pub table-length : length (supervisorTable d) ≡ maskTableLength (inputsOf d) (stateCount d)
   unfolding supervisorTable
   table-length = length-table d (stateCount d) (cellsOf d) (droppedOf d)
 

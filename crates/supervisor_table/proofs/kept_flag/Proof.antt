@@ -1,6 +1,6 @@
 -- `supervisor_table::kept_flag`: 1 where no round has dropped the state. Assumes nothing.
 use Rattle.records.specs.Laws.Tests.{said}
-use Rattle.supervisor_table.specs.Model.Rows.{keptFlag}
+use Rattle.supervisor_table.specs.Model.MaskRows.{keptFlag}
 use borrow.Author.Needs.{needs}
 use Rattle.supervisor_table.proofs.kept_flag.Statement.{statement}
 use Rattle.supervisor_table.proofs.kept_flag.Tie as tie

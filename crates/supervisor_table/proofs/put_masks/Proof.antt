@@ -1,17 +1,17 @@
 -- `supervisor_table::put_masks`: the masks of the inputs before i are stored. Assumes nothing.
 use Prim.Native.Nat.{_≤_, _-_}
 use native.Mathlib.Omega.{arith}
-use Rattle.rounds.specs.Model.Rounds.{maskOf}
+use Rattle.rounds.specs.Model.TableRounds.{maskOf}
 use Rattle.records.specs.Laws.Stores.{Elements, same, none, more, all}
 use Rattle.supervisor_table.proofs.put_masks.Statement.{statement}
 use Rattle.supervisor_table.proofs.put_masks.Tie as tie
 
 abbrev Inv-loop : tie.InvT-loop
-Inv-loop result₀ at cells dropped n inputs outputs k i₀ result i =
-    (i ≤ inputs) × Elements result₀ at (maskOf cells dropped inputs outputs k) i result
+Inv-loop result₀ at cells dropped n ins outs k i₀ result i =
+    (i ≤ ins) × Elements result₀ at (maskOf cells dropped ins outs k) i result
 
 abbrev μ-loop : tie.MeasureT-loop
-μ-loop result₀ at cells dropped n inputs outputs k i₀ result i = inputs - i
+μ-loop result₀ at cells dropped n ins outs k i₀ result i = ins - i
 
 loop-holds : tie.Need-loop-holds Inv-loop μ-loop
 loop-holds c = (omega arith, none)

@@ -5,8 +5,8 @@ use native.Mathlib.Omega.{arith}
 use lib.ListN.{length, length-set}
 use lib.Seq.{length-sets}
 use Rattle.records.specs.Meaning.Lists.{tab}
-use Rattle.rounds.specs.Model.Rounds.{maskOf}
-use Rattle.supervisor_table.specs.Model.Rows.{keptFlag, tableRow}
+use Rattle.rounds.specs.Model.TableRounds.{maskOf}
+use Rattle.supervisor_table.specs.Model.MaskRows.{keptFlag, tableRow}
 use Rattle.supervisor_table.proofs.Stores.{whole-record}
 use borrow.Author.Needs.{needs}
 use Rattle.supervisor_table.proofs.put_row.Statement.{statement}
@@ -49,11 +49,11 @@ put-masks-requires c κs = (start (c .before .before) .pre .0, simp length-set (
 returns : tie.Need-returns
 unfolding tableRow
 returns c = let a = entry c .args in
-    whole-record (a .result .now) (a .at) (1 + a .inputs) 18 (keptFlag (a .dropped .now) (a .k)) (tab (a .inputs) (maskOf (a .cells .now) (a .dropped .now) (a .inputs) (a .outputs) (a .k)))
+    whole-record (a .result .now) (a .at) (1 + a .ins) 18 (keptFlag (a .dropped .now) (a .k)) (tab (a .ins) (maskOf (a .cells .now) (a .dropped .now) (a .ins) (a .outs) (a .k)))
     (marked c .before .before .before .put-header .ensures) (marked c .kept-flag .ensures) (c .before .before .put-masks .ensures)
 
 same-length : tie.Need-same-length
-same-length c = let a = entry c .args in ap length (returns c) ∙ length-sets (a .result .now) (a .at) (tableRow (a .cells .now) (a .dropped .now) (a .inputs) (a .outputs) (a .k))
+same-length c = let a = entry c .args in ap length (returns c) ∙ length-sets (a .result .now) (a .at) (tableRow (a .cells .now) (a .dropped .now) (a .ins) (a .outs) (a .k))
 
 pub put-row-spec : {M : Type 1} → statement M
 put-row-spec =

@@ -3,19 +3,19 @@ use mathlib.Core.Path.{sym, _∙_}
 use Prim.Native.Nat.{_+_, _*_, _≤_, _-_}
 use native.Mathlib.Omega.{arith}
 use lib.ListN.{length}
-use Rattle.supervisor_table.specs.Model.Rows.{tableRow}
-use Rattle.supervisor_table.specs.Laws.Rows.{length-row}
+use Rattle.supervisor_table.specs.Model.MaskRows.{tableRow}
+use Rattle.supervisor_table.specs.Laws.MaskRows.{length-mask-row}
 use Rattle.records.specs.Laws.Stores.{Blocks, no-block, same-blocks, more-blocks, all-blocks}
 use Rattle.supervisor_table.proofs.Stores.{row-inside}
 use Rattle.supervisor_table.proofs.put_rows.Statement.{statement}
 use Rattle.supervisor_table.proofs.put_rows.Tie as tie
 
 abbrev Inv-loop : tie.InvT-loop
-Inv-loop result₀ cells dropped n inputs outputs size k₀ result k =
-    (k ≤ n) × Blocks result₀ 9 (tableRow cells dropped inputs outputs) k result
+Inv-loop result₀ cells dropped n ins outs size k₀ result k =
+    (k ≤ n) × Blocks result₀ 9 (tableRow cells dropped ins outs) k result
 
 abbrev μ-loop : tie.MeasureT-loop
-μ-loop result₀ cells dropped n inputs outputs size k₀ result k = n - k
+μ-loop result₀ cells dropped n ins outs size k₀ result k = n - k
 
 -- the places that the needs look back to
 abbrev entry : tie.In-loop Inv-loop μ-loop → tie.Start Inv-loop μ-loop
@@ -24,14 +24,14 @@ entry c = c .before .before .before .before .before .before
 -- the record of state k lies inside the result
 inside : (c : tie.In-loop Inv-loop μ-loop) →
     let at = c .before in
-    9 + at .loop .k * at .before .row-length .result + (5 + entry c .args .inputs) ≤ length (at .loop .result)
+    9 + at .loop .k * at .before .row-length .result + (5 + entry c .args .ins) ≤ length (at .loop .result)
 inside c =
     let a = entry c .args in
     let at = c .before in
     omega (
       arith,
       same-blocks (at .loop .inv .1),
-      row-inside (a .inputs) (a .n) (at .loop .k) {room = length (a .result .now)} (at .before .row-length .ensures .0) (omega arith) (omega arith),
+      row-inside (a .ins) (a .n) (at .loop .k) {room = length (a .result .now)} (at .before .row-length .ensures .0) (omega arith) (omega arith),
     )
 
 row-length-requires : tie.Need-row-length-requires Inv-loop μ-loop
@@ -57,7 +57,7 @@ loop-less c = omega arith
 
 loop-again : tie.Need-loop-again Inv-loop μ-loop
 loop-again c = let at = c .before .before .before .before .before in
-    (omega arith, more-blocks (at .loop .inv .1) (λ q. length-row _ _ _ _ q ∙ sym (at .before .row-length .ensures .0)) (c .before .before .put-row .ensures))
+    (omega arith, more-blocks (at .loop .inv .1) (λ q. length-mask-row _ _ _ _ q ∙ sym (at .before .row-length .ensures .0)) (c .before .before .put-row .ensures))
 
 same-length : tie.Need-same-length Inv-loop μ-loop
 same-length c = same-blocks (c .before .loop .inv .1)

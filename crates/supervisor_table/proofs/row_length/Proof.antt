@@ -1,5 +1,5 @@
 -- `supervisor_table::row_length`: a header, the kept byte, and a mask for each input. Assumes nothing.
-use Rattle.supervisor_table.specs.Model.Rows.{rowLength}
+use Rattle.supervisor_table.specs.Model.MaskRows.{maskRowLength}
 use borrow.Author.Needs.{needs}
 use Rattle.supervisor_table.proofs.row_length.Statement.{statement}
 use Rattle.supervisor_table.proofs.row_length.Tie as tie
@@ -8,7 +8,7 @@ add-result : tie.Need-add-result
 add-result c = search needs
 
 returns : tie.Need-returns
-unfolding rowLength
+unfolding maskRowLength
 returns c = search needs
 
 pub row-length-spec : {M : Type 1} → statement M

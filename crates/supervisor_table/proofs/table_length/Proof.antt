@@ -1,5 +1,5 @@
 -- `supervisor_table::table_length`: at most 256 rows of at most 21 bytes. Assumes nothing.
-use Rattle.supervisor_table.specs.Model.Rows.{tableLength}
+use Rattle.supervisor_table.specs.Model.MaskRows.{maskTableLength}
 use native.Mathlib.Nat.{mul-le-mul}
 use native.Mathlib.Omega.{arith}
 use borrow.Author.Needs.{needs}
@@ -16,7 +16,7 @@ add-result : tie.Need-add-result
 add-result c = omega (arith, mul-le-mul (c .before .pre .1) (c .row-length .ensures .1))
 
 returns : tie.Need-returns
-unfolding tableLength
+unfolding maskTableLength
 returns c = rw (c .row-length .ensures .0)
 
 pub table-length-spec : {M : Type 1} → statement M

@@ -10,19 +10,19 @@ use native.Mathlib.Omega.{arith}
 use lib.Arith.{digits-lt, digits-div, digits-mod}
 use lib.ListN.{length, getD}
 use Rattle.records.specs.Laws.Lists.{length-put, getD-put-front}
-use Rattle.rounds.specs.Model.Rounds.{isIn}
+use Rattle.rounds.specs.Model.TableRounds.{isIn}
 use Rattle.game.specs.Model.Choice.{Leads, before, against, leader, choose}
 use Rattle.game.specs.Laws.Choice.{choose-leads}
 use Rattle.values.specs.Model.Rank.{rank}
-use Rattle.values.specs.Model.Values.{Game, Sized, mayGive, scoreOf, choiceOf, choices}
+use Rattle.values.specs.Model.Values.{Game, SizedGame, mayGive, scoreOf, choiceOf, choices}
 use Rattle.values.specs.Laws.Sizes.{steps-of, next-low, next-kept}
-use Rattle.values.specs.Model.Guard.{chosen, follows}
-use Rattle.values.specs.Model.Numbered.{Following}
-use Rattle.values.specs.Laws.Numbered.{kept-closed}
+use Rattle.values.specs.Model.GuardStates.{chosen, follows}
+use Rattle.values.specs.Model.GuardNumbering.{Following}
+use Rattle.values.specs.Laws.GuardNumbering.{kept-closed}
 
 -- the choice that stands at an index of the choices
-abbrev pub choiceAt : Game → List ℕ → List ℕ → ℕ → ℕ → ℕ
-choiceAt g literals values factor at = choiceOf g literals values factor (at / g .inputs) (at % g .inputs)
+abbrev pub choiceIn : Game → List ℕ → List ℕ → ℕ → ℕ → ℕ
+choiceIn g literals values factor at = choiceOf g literals values factor (at / g .ins) (at % g .ins)
 
 module _ (p : ℕ → Bool) (score rank : ℕ → ℕ) where
   -- the leader of n numbers is below n
@@ -42,42 +42,42 @@ module _ (p : ℕ → Bool) (score rank : ℕ → ℕ) where
       go false m h = omega arith
 
 module _ (g : Game) (literals values : List ℕ) (factor : ℕ) where
-  pub choice-low : (k i : ℕ) → 1 ≤ g .outputs → choiceOf g literals values factor k i < g .outputs
+  pub choice-low : (k i : ℕ) → 1 ≤ g .outs → choiceOf g literals values factor k i < g .outs
   unfolding choiceOf choose
-  choice-low k i h = omega (arith, leader-low (mayGive g k i) (scoreOf g values factor k i) (rank literals) (g .outputs))
+  choice-low k i h = omega (arith, leader-low (mayGive g k i) (scoreOf g values factor k i) (rank literals) (g .outs))
 
   -- where an output may be given, the choice may be; no output's score is larger, and of those with its score none has a larger rank
-  pub choice-leads : (k i o : ℕ) → o < g .outputs → mayGive g k i o ≡ true
-      → Leads (g .outputs) (mayGive g k i) (scoreOf g values factor k i) (rank literals) (choiceOf g literals values factor k i)
+  pub choice-leads : (k i o : ℕ) → o < g .outs → mayGive g k i o ≡ true
+      → Leads (g .outs) (mayGive g k i) (scoreOf g values factor k i) (rank literals) (choiceOf g literals values factor k i)
   unfolding choiceOf
-  choice-leads k i o h may = choose-leads (mayGive g k i) (scoreOf g values factor k i) (rank literals) (g .outputs) o h may
+  choice-leads k i o h may = choose-leads (mayGive g k i) (scoreOf g values factor k i) (rank literals) (g .outs) o h may
 
   -- ---- the choices of n states
 
-  module _ (n : ℕ) (memory : List ℕ) (room : n * g .inputs ≤ length memory) where
-    pub choices-at : (at : ℕ) → at < n * g .inputs
+  module _ (n : ℕ) (memory : List ℕ) (room : n * g .ins ≤ length memory) where
+    pub choices-at : (at : ℕ) → at < n * g .ins
         → getD (choices g n literals values factor memory) at 0
-        ≡ choiceOf g literals values factor (at / g .inputs) (at % g .inputs)
+        ≡ choiceOf g literals values factor (at / g .ins) (at % g .ins)
     unfolding choices
-    choices-at at h = getD-put-front memory (n * g .inputs) _ at 0 h (omega arith)
+    choices-at at h = getD-put-front memory (n * g .ins) _ at 0 h (omega arith)
 
-    pub chosen-is : (k i : ℕ) → k < n → i < g .inputs
+    pub chosen-is : (k i : ℕ) → k < n → i < g .ins
         → chosen g (choices g n literals values factor memory) k i ≡ choiceOf g literals values factor k i
     unfolding chosen
     chosen-is k i hk hi =
-        choices-at (k * g .inputs + i) (digits-lt hk hi) ∙ rw (digits-div k hi, digits-mod k hi)
+        choices-at (k * g .ins + i) (digits-lt hk hi) ∙ rw (digits-div k hi, digits-mod k hi)
 
     -- the steps that chosen outputs make stay among the kept states, if each input of a kept state has an output that may be given
-    module _ (sized : Sized g n)
-        (live : (k i : ℕ) → k < n → isIn (g .dropped) k ≡ true → i < g .inputs → (o : ℕ) × (o < g .outputs) × (mayGive g k i o ≡ true))
+    module _ (sized : SizedGame g n)
+        (live : (k i : ℕ) → k < n → isIn (g .dropped) k ≡ true → i < g .ins → (o : ℕ) × (o < g .outs) × (mayGive g k i o ≡ true))
       where
-        pub chosen-leads : (k i : ℕ) → k < n → isIn (g .dropped) k ≡ true → i < g .inputs
-            → Leads (g .outputs) (mayGive g k i) (scoreOf g values factor k i) (rank literals)
+        pub chosen-leads : (k i : ℕ) → k < n → isIn (g .dropped) k ≡ true → i < g .ins
+            → Leads (g .outs) (mayGive g k i) (scoreOf g values factor k i) (rank literals)
             (chosen g (choices g n literals values factor memory) k i)
         chosen-leads k i hk kept hi =
             let x = live k i hk kept hi in rw (chosen-is k i hk hi) (choice-leads k i (x .0) (x .1) (x .2))
 
-        pub choices-stay : (k i : ℕ) → k < n → isIn (g .dropped) k ≡ true → i < g .inputs
+        pub choices-stay : (k i : ℕ) → k < n → isIn (g .dropped) k ≡ true → i < g .ins
             → (follows g (choices g n literals values factor memory) k i < n)
             × (isIn (g .dropped) (follows g (choices g n literals values factor memory) k i) ≡ true)
         unfolding follows

@@ -20,7 +20,7 @@ use Rattle.records.specs.Laws.Bits.{same-bits}
 use Rattle.records.specs.Meaning.Lists.{tab}
 use Rattle.records.specs.Laws.Lists.{length-tab, getD-tab}
 use Rattle.game.specs.Laws.Pigeonhole.{pigeonhole}
-use Rattle.values.specs.Meaning.Order.{holds, Higher}
+use Rattle.values.specs.Meaning.Order.{literalHolds, Higher}
 use Rattle.values.specs.Model.Rank.{rankBy, rank}
 
 -- a truth as a digit
@@ -48,14 +48,14 @@ module _ (literals : List ℕ) where
   unfolding rankBy
   rank-none o = refl
 
-  pub rank-more : (n o : ℕ) → rankBy literals (n + 1) o ≡ 2 * rankBy literals n o + cond (holds (getD literals n 0) o) 1 0
+  pub rank-more : (n o : ℕ) → rankBy literals (n + 1) o ≡ 2 * rankBy literals n o + cond (literalHolds (getD literals n 0) o) 1 0
   unfolding rankBy
   rank-more n o = rw add-one
 
   pub rank-low : (n o : ℕ) → rankBy literals n o < 2 ^ n
   unfolding rankBy
   rank-low zero o = omega arith
-  rank-low (suc n) o = omega (arith, rank-low n o, digit-low (holds (getD literals n 0) o), pow-suc 2 n)
+  rank-low (suc n) o = omega (arith, rank-low n o, digit-low (literalHolds (getD literals n 0) o), pow-suc 2 n)
 
   -- three literals give ranks below 8
   pub rank-small : (n o r : ℕ) → r ≡ rankBy literals n o → n ≤ 3 → r < 8
@@ -63,7 +63,7 @@ module _ (literals : List ℕ) where
 
   -- the literals before n hold of both outputs or of neither
   abbrev Alike : ℕ → ℕ → ℕ → Type 0
-  Alike n o q = (j : ℕ) → j < n → holds (getD literals j 0) o ≡ holds (getD literals j 0) q
+  Alike n o q = (j : ℕ) → j < n → literalHolds (getD literals j 0) o ≡ literalHolds (getD literals j 0) q
 
   pub alike-rank : (n o q : ℕ) → Alike n o q → rankBy literals n o ≡ rankBy literals n q
   unfolding rankBy
@@ -74,13 +74,13 @@ module _ (literals : List ℕ) where
   unfolding rankBy
   rank-alike zero o q e j h = absurd (omega arith)
   rank-alike (suc n) o q e j h =
-      let x : digit (holds (getD literals n 0) o) ≤ 1 = digit-low (holds (getD literals n 0) o) in
-      let y : digit (holds (getD literals n 0) q) ≤ 1 = digit-low (holds (getD literals n 0) q) in
+      let x : digit (literalHolds (getD literals n 0) o) ≤ 1 = digit-low (literalHolds (getD literals n 0) o) in
+      let y : digit (literalHolds (getD literals n 0) q) ≤ 1 = digit-low (literalHolds (getD literals n 0) q) in
       cases-suc j n h (rank-alike n o q (omega arith) j) (λ i. rw i (digit-same _ _ (omega arith)))
 
   -- a smaller rank, and the first literal at which the outputs differ
   rank-higher : (n o q : ℕ) → rankBy literals n q < rankBy literals n o
-      → (at : ℕ) × (at < n) × Alike at o q × (holds (getD literals at 0) o ≡ true) × (holds (getD literals at 0) q ≡ false)
+      → (at : ℕ) × (at < n) × Alike at o q × (literalHolds (getD literals at 0) o ≡ true) × (literalHolds (getD literals at 0) q ≡ false)
   unfolding rankBy
   rank-higher zero o q h = absurd (omega arith)
   rank-higher (suc n) o q h =
@@ -88,19 +88,19 @@ module _ (literals : List ℕ) where
         | yes l ↦
             let r = rank-higher n o q l in (r .0, omega (arith, r .1), r .2, r .3, r .4)
         | no l ↦
-            let x : digit (holds (getD literals n 0) o) ≤ 1 = digit-low (holds (getD literals n 0) o) in
-            let y : digit (holds (getD literals n 0) q) ≤ 1 = digit-low (holds (getD literals n 0) q) in
-            let less = digit-less (holds (getD literals n 0) q) (holds (getD literals n 0) o) (omega arith) in
+            let x : digit (literalHolds (getD literals n 0) o) ≤ 1 = digit-low (literalHolds (getD literals n 0) o) in
+            let y : digit (literalHolds (getD literals n 0) q) ≤ 1 = digit-low (literalHolds (getD literals n 0) q) in
+            let less = digit-less (literalHolds (getD literals n 0) q) (literalHolds (getD literals n 0) o) (omega arith) in
             (n, omega arith, rank-alike n o q (omega arith), less .1, less .0)
       ]
 
-  higher-rank : (n o q at : ℕ) → at < n → Alike at o q → holds (getD literals at 0) o ≡ true
-      → holds (getD literals at 0) q ≡ false → rankBy literals n q < rankBy literals n o
+  higher-rank : (n o q at : ℕ) → at < n → Alike at o q → literalHolds (getD literals at 0) o ≡ true
+      → literalHolds (getD literals at 0) q ≡ false → rankBy literals n q < rankBy literals n o
   unfolding rankBy
   higher-rank zero o q at h a t f = absurd (omega arith)
   higher-rank (suc n) o q at h a t f =
       cases-suc at n h
-      (λ l. omega (arith, higher-rank n o q at l a t f, digit-low (holds (getD literals n 0) q)))
+      (λ l. omega (arith, higher-rank n o q at l a t f, digit-low (literalHolds (getD literals n 0) q)))
       (λ l.
       let same : rankBy literals n o ≡ rankBy literals n q = alike-rank n o q (rw l at a) in
       rw (same, rw l at t, rw l at f) (omega arith))
@@ -169,8 +169,8 @@ onto n f low once m inside = by-test (any n (λ j. eqb (f j) m)) hit missed
         ))
 
 -- a literal tells its line's bit
-holds-bit : (literal o q : ℕ) → holds literal o ≡ holds literal q → o / 2 ^ (literal % 8) % 2 ≡ q / 2 ^ (literal % 8) % 2
-unfolding holds
+holds-bit : (literal o q : ℕ) → literalHolds literal o ≡ literalHolds literal q → o / 2 ^ (literal % 8) % 2 ≡ q / 2 ^ (literal % 8) % 2
+unfolding literalHolds
 holds-bit literal o q e =
     go (o / 2 ^ (literal % 8) % 2) (q / 2 ^ (literal % 8) % 2) (cond (ltb literal 8) 1 0)
     (mod-lt _ (omega arith)) (mod-lt _ (omega arith)) (digit-low (ltb literal 8)) e

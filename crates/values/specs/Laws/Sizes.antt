@@ -11,10 +11,10 @@ use lib.Arith.{digits-lt}
 use lib.ListN.{getD}
 use Rattle.records.specs.Laws.Tests.{and-left, and-right}
 use Rattle.records.specs.Model.Cells.{isBroken}
-use Rattle.rounds.specs.Model.Rounds.{Steps, isIn, leadsIn}
-use Rattle.rounds.specs.Laws.Cells.{Entered, cell-in}
-use Rattle.values.specs.Model.Values.{Game, Sized, mayGive, nextOf, scoreOf, earns}
-use Rattle.values.specs.Model.Sizes.{Valued, scoreAt, Scored}
+use Rattle.rounds.specs.Model.TableRounds.{Steps, isIn, leadsIn}
+use Rattle.rounds.specs.Laws.CellPlaces.{CellEntered, cell-in}
+use Rattle.values.specs.Model.Values.{Game, SizedGame, mayGive, cellNext, scoreOf, earns}
+use Rattle.values.specs.Model.Sizes.{Valued, scoreIn, Scored}
 
 -- ---- a step of a sized table
 
@@ -28,32 +28,32 @@ pub leads-kept : (cells dropped : List ℕ) (at : ℕ) → leadsIn cells dropped
 unfolding leadsIn
 leads-kept cells dropped at e = and-right (not (isBroken (getD cells at 0))) (isIn dropped (getD cells at 0)) e
 
-pub steps-of : {g : Game} {n : ℕ} → Sized g n → Steps (g .cells) n (g .inputs) (g .outputs)
+pub steps-of : {g : Game} {n : ℕ} → SizedGame g n → Steps (g .cells) n (g .ins) (g .outs)
 steps-of s = record { rows = s .rows; inside = s .inside }
 
-pub letter-low : {inputs outputs i o : ℕ} → i < inputs → o < outputs → i + inputs * o < inputs * outputs
-letter-low {inputs} {outputs} {i} {o} hi ho = omega (arith, digits-lt ho hi, mul-comm inputs o, mul-comm inputs outputs)
+pub cell-letter-low : {ins outs i o : ℕ} → i < ins → o < outs → i + ins * o < ins * outs
+cell-letter-low {ins} {outs} {i} {o} hi ho = omega (arith, digits-lt ho hi, mul-comm ins o, mul-comm ins outs)
 
-module _ {g : Game} {n : ℕ} (s : Sized g n) where
-  pub entered : {k : ℕ} → k < n → Entered (g .dropped) n k
+module _ {g : Game} {n : ℕ} (s : SizedGame g n) where
+  pub entered : {k : ℕ} → k < n → CellEntered (g .dropped) n k
   entered h = record { room = s .dropped; state = h }
 
   -- an output that may be given leads to one of the n states
-  pub next-low : {k i o : ℕ} → k < n → i < g .inputs → o < g .outputs → mayGive g k i o ≡ true → nextOf g k i o < n
-  unfolding mayGive nextOf
+  pub next-low : {k i o : ℕ} → k < n → i < g .ins → o < g .outs → mayGive g k i o ≡ true → cellNext g k i o < n
+  unfolding mayGive cellNext
   next-low hk hi ho may = s .inside _ (cell-in (steps-of s) hk hi ho) (leads-unbroken (g .cells) (g .dropped) _ may)
 
   -- which is kept
-  pub next-kept : (k i o : ℕ) → mayGive g k i o ≡ true → isIn (g .dropped) (nextOf g k i o) ≡ true
-  unfolding mayGive nextOf
+  pub next-kept : (k i o : ℕ) → mayGive g k i o ≡ true → isIn (g .dropped) (cellNext g k i o) ≡ true
+  unfolding mayGive cellNext
   next-kept k i o may = leads-kept (g .cells) (g .dropped) _ may
 
-  pub scored-at : {values : List ℕ} {factor k i o : ℕ} → Valued n values factor → k < n → i < g .inputs → o < g .outputs
+  pub scored-at : {values : List ℕ} {factor k i o : ℕ} → Valued n values factor → k < n → i < g .ins → o < g .outs
       → mayGive g k i o ≡ true
-      → Scored (g .gains) (g .bonuses) values factor (nextOf g k i o) (i + g .inputs * o)
+      → Scored (g .gains) (g .bonuses) values factor (cellNext g k i o) (i + g .ins * o)
   scored-at {values} {factor} {k} {i} {o} v hk hi ho may =
-      let to : nextOf g k i o < n = next-low hk hi ho may in
-      let letter : i + g .inputs * o < g .inputs * g .outputs = letter-low hi ho in
+      let to : cellNext g k i o < n = next-low hk hi ho may in
+      let letter : i + g .ins * o < g .ins * g .outs = cell-letter-low hi ho in
       record {
         gains-room = omega (arith, s .gains);
         gain = s .gain _ to;
@@ -66,6 +66,6 @@ module _ {g : Game} {n : ℕ} (s : Sized g n) where
 
 -- a step's score, read from the state after it and its letter
 pub score-read : (g : Game) (values : List ℕ) (factor k i o : ℕ)
-    → scoreAt (g .gains) (g .bonuses) values factor (nextOf g k i o) (i + g .inputs * o) ≡ scoreOf g values factor k i o
-unfolding scoreAt scoreOf earns
+    → scoreIn (g .gains) (g .bonuses) values factor (cellNext g k i o) (i + g .ins * o) ≡ scoreOf g values factor k i o
+unfolding scoreIn scoreOf earns
 score-read g values factor k i o = refl

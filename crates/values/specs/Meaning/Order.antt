@@ -8,13 +8,13 @@ use lib.Dec.{ltb, eqb}
 use lib.ListN.{length, getD}
 
 -- a literal is its line's number, 8 more if off is preferred; it holds of an output in which the line is as preferred
-unfoldable pub holds : ℕ → ℕ → Bool
-holds literal o = eqb (o / 2 ^ (literal % 8) % 2) (cond (ltb literal 8) 1 0)
+unfoldable pub literalHolds : ℕ → ℕ → Bool
+literalHolds literal o = eqb (o / 2 ^ (literal % 8) % 2) (cond (ltb literal 8) 1 0)
 
 -- o stands above q: there is a first literal that holds of only one of them, and it holds of o
 pub record Higher (literals : List ℕ) (o q : ℕ) : Type 0 where
   pub at : ℕ
   pub inside : at < length literals
-  pub alike : (j : ℕ) → j < at → holds (getD literals j 0) o ≡ holds (getD literals j 0) q
-  pub above : holds (getD literals at 0) o ≡ true
-  pub below : holds (getD literals at 0) q ≡ false
+  pub alike : (j : ℕ) → j < at → literalHolds (getD literals j 0) o ≡ literalHolds (getD literals j 0) q
+  pub above : literalHolds (getD literals at 0) o ≡ true
+  pub below : literalHolds (getD literals at 0) q ≡ false

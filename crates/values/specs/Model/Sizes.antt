@@ -4,18 +4,18 @@ use mathlib.Core.List.{List}
 use Prim.Native.Nat.{ℕ, _+_, _*_, _^_, _≤_, _<_}
 use lib.ListN.{length, getD}
 use Rattle.records.specs.Model.Bounded.{top}
-use Rattle.values.specs.Model.Values.{Game, Sized, mayGive, scoreOf}
+use Rattle.values.specs.Model.Values.{Game, SizedGame, mayGive, scoreOf}
 
 -- the table, from its slices and the numbers of inputs and outputs
 abbrev pub gameOf : List ℕ → List ℕ → List ℕ → List ℕ → ℕ → ℕ → Game
-gameOf cells dropped gains bonuses inputs outputs =
+gameOf cells dropped gains bonuses ins outs =
     record {
       cells = cells;
       dropped = dropped;
       gains = gains;
       bonuses = bonuses;
-      inputs = inputs;
-      outputs = outputs;
+      ins = ins;
+      outs = outs;
     }
 
 -- values and a factor that stay far below 2 ^ 64: at most 24 steps of at most 2295 for each of 2 ^ 24 words
@@ -27,13 +27,13 @@ pub record Valued (n : ℕ) (values : List ℕ) (factor : ℕ) : Type 0 where
 -- state k of a table of any number of states, with such values for them
 pub record Ready (g : Game) (values : List ℕ) (factor k : ℕ) : Type 0 where
   pub states : ℕ
-  pub sized : Sized g states
+  pub sized : SizedGame g states
   pub valued : Valued states values factor
   pub state : k < states
 
 -- the score of a step to the state `to` by a letter
-unfoldable pub scoreAt : List ℕ → List ℕ → List ℕ → ℕ → ℕ → ℕ → ℕ
-scoreAt gains bonuses values factor to letter = (getD gains to 0 + getD bonuses letter 0) * factor + getD values to 0
+unfoldable pub scoreIn : List ℕ → List ℕ → List ℕ → ℕ → ℕ → ℕ → ℕ
+scoreIn gains bonuses values factor to letter = (getD gains to 0 + getD bonuses letter 0) * factor + getD values to 0
 
 -- and that it can be read and fits
 pub record Scored (gains bonuses values : List ℕ) (factor to letter : ℕ) : Type 0 where
@@ -47,4 +47,4 @@ pub record Scored (gains bonuses values : List ℕ) (factor to letter : ℕ) : T
 
 -- the largest score of state k at input i
 abbrev pub bestOf : Game → List ℕ → ℕ → ℕ → ℕ → ℕ
-bestOf g values factor k i = top (g .outputs) (mayGive g k i) (scoreOf g values factor k i)
+bestOf g values factor k i = top (g .outs) (mayGive g k i) (scoreOf g values factor k i)

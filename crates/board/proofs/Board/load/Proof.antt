@@ -4,7 +4,7 @@ use mathlib.Core.Bool.{false}
 use Rattle.records.specs.Laws.Tests.{said}
 use Rattle.board.specs.Meaning.Board.{live}
 use Rattle.board.specs.Meaning.Load.{loadOn}
-use Rattle.guard_table.specs.Laws.Facts.{loadable-head}
+use Rattle.guard_table.specs.Laws.LoadableFacts.{loadable-head}
 use Rattle.board.proofs.Promises.{load-promise}
 use borrow.Author.Needs.{needs}
 use Rattle.board.proofs.Board.load.Statement.{statement}

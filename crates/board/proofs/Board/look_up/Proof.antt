@@ -7,9 +7,9 @@ use borrow.Author.Tests.{ne-eqb, eq-eqb}
 use Rattle.records.specs.Laws.Tests.{said}
 use Rattle.records.specs.Laws.Limits.{Lines, lines-facts}
 use Rattle.guard_table.specs.Laws.GuardTable.{row-inside, entry-inside}
-use Rattle.guard_table.specs.Laws.Facts.{entry-tested}
-use Rattle.board.specs.Laws.Facts.{Live, live-facts}
-use Rattle.board.specs.Meaning.Step.{entryFits, lookedUp}
+use Rattle.guard_table.specs.Laws.LoadableFacts.{entry-tested}
+use Rattle.board.specs.Laws.LiveFacts.{Live, live-facts}
+use Rattle.board.specs.Meaning.BoardStep.{entryFits, lookedUp}
 use borrow.Author.Needs.{needs}
 use Rattle.board.proofs.Board.look_up.Statement.{statement}
 use Rattle.board.proofs.Board.look_up.Tie as tie

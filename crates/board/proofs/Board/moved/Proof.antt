@@ -1,10 +1,10 @@
--- `board::Board::moved`: one deviation more where the output is not the proposal. Assumes nothing.
+-- `board::Board::boardMoved`: one deviation more where the output is not the proposal. Assumes nothing.
 use native.Mathlib.Omega.{arith}
 use native.Mathlib.Nat.{add-zero}
 use mathlib.Core.Logic.{⊎-elim}
 use Rattle.records.specs.Laws.Tests.{said}
-use Rattle.board.specs.Meaning.Step.{moved}
-use Rattle.board.specs.Laws.Facts.{Live, live-facts}
+use Rattle.board.specs.Meaning.BoardStep.{boardMoved}
+use Rattle.board.specs.Laws.LiveFacts.{Live, live-facts}
 use borrow.Author.Needs.{needs}
 use Rattle.board.proofs.Board.moved.Statement.{statement}
 use Rattle.board.proofs.Board.moved.Tie as tie
@@ -28,7 +28,7 @@ of-requires : tie.Need-of-requires
 of-requires c κs = search needs
 
 returns : tie.Need-returns
-unfolding moved
+unfolding boardMoved
 returns c = let r = c .before in
     let told = r .before .before .before .deviates .ensures in
     ⊎-elim (λ w. simp (c .of .ensures, r .run-at .ensures, w .1, said told (w .0 .taken)))

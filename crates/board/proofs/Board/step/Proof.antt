@@ -9,8 +9,8 @@ use Rattle.records.specs.Laws.Tests.{cases, said-no, said-yes}
 use Rattle.records.specs.Meaning.Limits.{maxSteps}
 use Rattle.records.specs.Laws.Limits.{lines-facts}
 use Rattle.board.specs.Meaning.Board.{live}
-use Rattle.board.specs.Meaning.Step.{stepOn}
-use Rattle.board.specs.Laws.Facts.{live-facts}
+use Rattle.board.specs.Meaning.BoardStep.{stepOn}
+use Rattle.board.specs.Laws.LiveFacts.{live-facts}
 use Rattle.board.proofs.Promises.{step-promise}
 use borrow.Author.Needs.{needs}
 use Rattle.board.proofs.Board.step.Statement.{statement}

@@ -1,5 +1,5 @@
 -- `board_bytes::layout::board_in`: field by field. Assumes nothing.
-use Rattle.board_bytes.specs.Meaning.Board.{boardIn}
+use Rattle.board_bytes.specs.Meaning.BoardBytes.{boardIn}
 use borrow.Author.Needs.{needs}
 use Rattle.board_bytes.proofs.layout.board_in.Statement.{statement}
 use Rattle.board_bytes.proofs.layout.board_in.Tie as tie

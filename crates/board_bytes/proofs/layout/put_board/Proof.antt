@@ -1,6 +1,6 @@
 -- `board_bytes::layout::put_board`: the fields one after the other fill the slice. Assumes nothing.
-use Rattle.board_bytes.specs.Meaning.Board.{boardBytes}
-use Rattle.board_bytes.specs.Laws.Board.{sets-whole}
+use Rattle.board_bytes.specs.Meaning.BoardBytes.{boardBytes}
+use Rattle.board_bytes.proofs.Back.{sets-whole}
 use borrow.Author.Needs.{needs}
 use Rattle.board_bytes.proofs.layout.put_board.Statement.{statement}
 use Rattle.board_bytes.proofs.layout.put_board.Tie as tie

@@ -1,5 +1,5 @@
 -- `board_bytes::layout::u32_at`: two numbers of two bytes. Assumes nothing.
-use Rattle.board_bytes.specs.Meaning.Board.{u32At}
+use Rattle.board_bytes.specs.Meaning.BoardBytes.{u32At}
 use borrow.Author.Needs.{needs}
 use Rattle.board_bytes.proofs.layout.u32_at.Statement.{statement}
 use Rattle.board_bytes.proofs.layout.u32_at.Tie as tie

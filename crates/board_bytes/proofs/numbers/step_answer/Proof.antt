@@ -2,7 +2,7 @@
 use mathlib.Core.Path.{sym, ap, _∙_}
 use Prim.Native.Nat.{_*_}
 use native.Mathlib.Nat.{zero-add}
-use Rattle.board_bytes.specs.Promises.Calls.{stepAnswer}
+use Rattle.board_bytes.specs.Promises.ByteCalls.{stepAnswer}
 use borrow.Author.Needs.{needs}
 use Rattle.board_bytes.proofs.numbers.step_answer.Statement.{statement}
 use Rattle.board_bytes.proofs.numbers.step_answer.Tie as tie

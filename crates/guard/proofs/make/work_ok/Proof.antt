@@ -1,6 +1,6 @@
 -- `guard::make::work_ok`: the tests in the definition's order. Assumes nothing.
 use Rattle.records.specs.Laws.Tests.{cases}
-use Rattle.guard.specs.Promises.Guard.{workOk}
+use Rattle.guard.specs.Promises.GuardMaker.{workOk}
 use Rattle.guard.proofs.make.work_ok.Statement.{statement}
 use Rattle.guard.proofs.make.work_ok.Tie as tie
 

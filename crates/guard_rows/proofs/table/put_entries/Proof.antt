@@ -6,8 +6,8 @@ use lib.Arith.{digits-lt}
 use lib.ListN.{length, getD}
 use lib.Pow.{pow-mono}
 use Rattle.records.specs.Meaning.Limits.{maxInputs}
-use Rattle.values.specs.Model.Guard.{chosen}
-use Rattle.values.specs.Model.Numbered.{stepsOf}
+use Rattle.values.specs.Model.GuardStates.{chosen}
+use Rattle.values.specs.Model.GuardNumbering.{stepsOf}
 use Rattle.records.specs.Laws.Stores.{Blocks, no-block, same-blocks, more-blocks, all-blocks}
 use Rattle.guard_rows.specs.Model.Entered.{numbered, entryBy}
 use Rattle.guard_table.specs.Meaning.GuardTable.{nextEnd, entryAt}
@@ -17,11 +17,11 @@ use Rattle.guard_rows.proofs.table.put_entries.Statement.{statement}
 use Rattle.guard_rows.proofs.table.put_entries.Tie as tie
 
 abbrev Inv-loop : tie.InvT-loop
-Inv-loop result₀ place cells lines inputs outputs n choices numbers k layout i₀ result i =
-    (i ≤ inputs) × Blocks result₀ (entryAt lines place 0) (entryBy (stepsOf cells inputs outputs) choices numbers k) i result
+Inv-loop result₀ place cells lines ins outs n choices numbers k layout i₀ result i =
+    (i ≤ ins) × Blocks result₀ (entryAt lines place 0) (entryBy (stepsOf cells ins outs) choices numbers k) i result
 
 abbrev μ-loop : tie.MeasureT-loop
-μ-loop result₀ place cells lines inputs outputs n choices numbers k layout i₀ result i = inputs - i
+μ-loop result₀ place cells lines ins outs n choices numbers k layout i₀ result i = ins - i
 
 -- the places that the needs look back to
 abbrev entry : tie.In-loop Inv-loop μ-loop → tie.Start Inv-loop μ-loop
@@ -40,7 +40,7 @@ low c = omega (arith, c .loop-test .taken, entry c .pre .1 .0)
 -- the choice lies among those of n states
 inside : (c : tie.After-follow Inv-loop μ-loop) →
     let a = args c .args in
-    a .k * a .inputs + c .before .before .loop .i < length (a .choices .now)
+    a .k * a .ins + c .before .before .loop .i < length (a .choices .now)
 inside c = let e = args c .pre .0 in omega (arith, digits-lt (e .state) (c .before .loop-test .taken), e .following .chosen-room)
 
 -- the state that follows has a number
@@ -110,7 +110,7 @@ loop-again c =
     let l = at .before .before .loop in (
       omega arith,
       more-blocks (l .inv .1) (λ q. refl)
-          (entry-stored (l .result) (a .lines) (a .place) (l .i) (getD (a .choices .now) (a .k * a .inputs + l .i) 0) (done .before .before .entry-at .ensures)
+          (entry-stored (l .result) (a .lines) (a .place) (l .i) (getD (a .choices .now) (a .k * a .ins + l .i) 0) (done .before .before .entry-at .ensures)
           (ap (λ (x : ℕ). getD (a .numbers .now) x 0 - 1) (at .follow .ensures)) (done .put-entry .ensures)),
     )
 

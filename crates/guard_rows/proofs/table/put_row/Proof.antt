@@ -1,6 +1,6 @@
 -- `guard_rows::table::put_row`: the header and the entries, one after the other. Assumes nothing.
-use Rattle.values.specs.Model.Guard.{chosen}
-use Rattle.values.specs.Model.Numbered.{stepsOf}
+use Rattle.values.specs.Model.GuardStates.{chosen}
+use Rattle.values.specs.Model.GuardNumbering.{stepsOf}
 use Rattle.guard_table.specs.Laws.GuardTable.{row-kept}
 use Rattle.guard_rows.specs.Model.Entered.{numbered}
 use Rattle.guard_rows.proofs.Stores.{row-stored}
@@ -29,7 +29,7 @@ returns : tie.Need-returns
 returns c = let at = headed (c .before .before .before) in
     let s = start (at .before) in
     let a = s .args in
-    let g = stepsOf (a .cells .now) (a .inputs) (a .outputs) in
+    let g = stepsOf (a .cells .now) (a .ins) (a .outs) in
     row-stored (a .result .now) (a .lines) (a .place) (chosen g (a .choices .now) (a .k)) (numbered g (a .choices .now) (a .numbers .now) (a .k))
     (s .pre .1 .0) (at .put-row-header .ensures) (c .before .before .put-entries .ensures)
 

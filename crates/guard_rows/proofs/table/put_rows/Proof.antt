@@ -5,19 +5,19 @@ use lib.ListN.{getD}
 use Rattle.guard_table.specs.Meaning.GuardTable.{headLength, rowAt}
 use Rattle.guard_table.specs.Laws.GuardTable.{row-inside, row-kept, length-row}
 use Rattle.guard_table.specs.Model.Inside.{RowInside}
-use Rattle.values.specs.Model.Numbered.{stepsOf}
+use Rattle.values.specs.Model.GuardNumbering.{stepsOf}
 use Rattle.records.specs.Laws.Stores.{Blocks, no-block, same-blocks, more-blocks, all-blocks}
-use Rattle.guard_rows.specs.Model.Entered.{rowBy}
+use Rattle.guard_rows.specs.Model.Entered.{guardRowBy}
 use Rattle.guard_rows.specs.Laws.Entered.{count-most, entered}
 use Rattle.guard_rows.proofs.table.put_rows.Statement.{statement}
 use Rattle.guard_rows.proofs.table.put_rows.Tie as tie
 
 abbrev Inv-loop : tie.InvT-loop
-Inv-loop result₀ cells lines inputs outputs n choices order numbers count j₀ result j =
-    (j ≤ count) × Blocks result₀ headLength (λ q. rowBy lines (stepsOf cells inputs outputs) choices numbers (getD order q 0)) j result
+Inv-loop result₀ cells lines ins outs n choices order numbers count j₀ result j =
+    (j ≤ count) × Blocks result₀ headLength (λ q. guardRowBy lines (stepsOf cells ins outs) choices numbers (getD order q 0)) j result
 
 abbrev μ-loop : tie.MeasureT-loop
-μ-loop result₀ cells lines inputs outputs n choices order numbers count j₀ result j = count - j
+μ-loop result₀ cells lines ins outs n choices order numbers count j₀ result j = count - j
 
 -- the places that the needs look back to
 abbrev entry : tie.At-loop Inv-loop μ-loop → tie.Start Inv-loop μ-loop

@@ -1,7 +1,7 @@
 -- `guard_rows::table::write`: the head and the rows, one after the other. Assumes nothing.
 use native.Mathlib.Omega.{arith}
 use Rattle.guard_table.specs.Meaning.GuardTable.{tableLength}
-use Rattle.values.specs.Model.Numbered.{stepsOf}
+use Rattle.values.specs.Model.GuardNumbering.{stepsOf}
 use Rattle.guard_rows.specs.Laws.Entered.{count-most}
 use Rattle.guard_rows.proofs.Stores.{table-stored}
 use borrow.Author.Needs.{needs}
@@ -33,7 +33,7 @@ returns : tie.Need-returns
 returns c = let at = headed (c .before .before .before) in
     let a = start (at .before) .args in
     table-stored (a .result .now) (a .sheet .mode) (a .sheet .inputs) (a .sheet .outputs) (a .horizon) (a .count)
-    (stepsOf (a .cells .now) (a .inputs) (a .outputs)) (a .choices .now) (a .order .now) (a .numbers .now)
+    (stepsOf (a .cells .now) (a .ins) (a .outs)) (a .choices .now) (a .order .now) (a .numbers .now)
     (at .put-head .ensures) (c .before .before .put-rows .ensures)
 
 pub write-spec : {M : Type 1} → statement M

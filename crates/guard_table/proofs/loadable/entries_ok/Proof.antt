@@ -9,7 +9,7 @@ use Rattle.records.specs.Laws.Tests.{said-no, said-yes}
 use Rattle.records.specs.Laws.Bounded.{all-of, all-fails}
 use Rattle.guard_table.specs.Meaning.GuardTable.{outputIn, nextIn}
 use Rattle.guard_table.specs.Laws.GuardTable.{sized-row, entry-inside}
-use Rattle.guard_table.specs.Laws.Facts.{entry-tested}
+use Rattle.guard_table.specs.Laws.LoadableFacts.{entry-tested}
 use Rattle.guard_table.specs.Meaning.Loadable.{entryOk, entriesOk}
 use Rattle.guard_table.proofs.loadable.entries_ok.Statement.{statement}
 use Rattle.guard_table.proofs.loadable.entries_ok.Tie as tie

@@ -1,6 +1,6 @@
 -- `guard_table::loadable::head_ok`: the tests in the definition's order. Assumes nothing.
 use Rattle.records.specs.Laws.Tests.{cases, said}
-use Rattle.guard_table.specs.Meaning.Loadable.{headOk}
+use Rattle.guard_table.specs.Meaning.Loadable.{tableHeadOk}
 use borrow.Author.Needs.{needs}
 use Rattle.guard_table.proofs.loadable.head_ok.Statement.{statement}
 use Rattle.guard_table.proofs.loadable.head_ok.Tie as tie
@@ -10,7 +10,7 @@ abbrev kinded : tie.After-u16-at → tie.Then2
 kinded c = c .before .before .before .before .before
 
 returns : tie.Need-returns
-unfolding headOk
+unfolding tableHeadOk
 returns c = search cases
 
 header-is-requires : tie.Need-header-is-requires
@@ -35,13 +35,13 @@ fields-ok-requires : tie.Need-fields-ok-requires
 fields-ok-requires c κs = search needs
 
 returns-2 : tie.Need-returns-2
-unfolding headOk
+unfolding tableHeadOk
 returns-2 c =
     let d = kinded (c .before) in
     search (cases, said (d .before .header-is .ensures) (d .if2 .taken), c .before .u16-at .ensures, c .fields-ok .ensures)
 
 returns-3 : tie.Need-returns-3
-unfolding headOk
+unfolding tableHeadOk
 returns-3 c = search (cases, said (c .before .header-is .ensures) (c .if2 .left))
 
 pub head-ok-spec : {M : Type 1} → statement M

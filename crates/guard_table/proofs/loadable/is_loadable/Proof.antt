@@ -4,8 +4,8 @@ use mathlib.Core.Path.{_≡_}
 use mathlib.Core.Bool.{true}
 use denote.Ref.{now}
 use Rattle.records.specs.Laws.Tests.{said}
-use Rattle.guard_table.specs.Meaning.Loadable.{headOk, loadable}
-use Rattle.guard_table.specs.Laws.Facts.{head-facts, head-lines, head-sized}
+use Rattle.guard_table.specs.Meaning.Loadable.{tableHeadOk, loadable}
+use Rattle.guard_table.specs.Laws.LoadableFacts.{table-head-facts, head-lines, head-sized}
 use borrow.Author.Needs.{needs}
 use Rattle.guard_table.proofs.loadable.is_loadable.Statement.{statement}
 use Rattle.guard_table.proofs.loadable.is_loadable.Tie as tie
@@ -14,20 +14,20 @@ use Rattle.guard_table.proofs.loadable.is_loadable.Tie as tie
 abbrev tested : tie.After-u16-at → tie.Then1
 tested c = c .before .before .before
 
-head : (c : tie.Then1) → headOk (now (c .before .before .before .args .t)) ≡ true
+head : (c : tie.Then1) → tableHeadOk (now (c .before .before .before .args .t)) ≡ true
 head c = said (c .before .head-ok .ensures) (c .if1 .taken)
 
 head-ok-requires : tie.Need-head-ok-requires
 head-ok-requires c κs = search needs
 
 shared-slice-read-rows-ok : tie.Need-shared-slice-read-rows-ok
-shared-slice-read-rows-ok c = let h = head-facts _ (head (c .before)) in omega arith
+shared-slice-read-rows-ok c = let h = table-head-facts _ (head (c .before)) in omega arith
 
 shared-slice-read-rows-ok-2 : tie.Need-shared-slice-read-rows-ok-2
-shared-slice-read-rows-ok-2 c = let h = head-facts _ (head (c .before .before)) in omega arith
+shared-slice-read-rows-ok-2 c = let h = table-head-facts _ (head (c .before .before)) in omega arith
 
 u16-at-requires : tie.Need-u16-at-requires
-u16-at-requires c κs = let h = head-facts _ (head (c .before .before)) in omega arith
+u16-at-requires c κs = let h = table-head-facts _ (head (c .before .before)) in omega arith
 
 cast-rows-ok : tie.Need-cast-rows-ok
 cast-rows-ok c = search needs

@@ -1,6 +1,6 @@
 -- `listing_text::lengths::row_length`: a sum. Assumes nothing.
 use native.Mathlib.Omega.{arith}
-use Rattle.listing_text.specs.Laws.Lengths.{length-row}
+use Rattle.listing_text.specs.Laws.Lengths.{length-row-text}
 use borrow.Author.Needs.{needs}
 use Rattle.listing_text.proofs.lengths.row_length.Statement.{statement}
 use Rattle.listing_text.proofs.lengths.row_length.Tie as tie
@@ -18,7 +18,7 @@ add-result-2 : tie.Need-add-result-2
 add-result-2 c = search needs
 
 returns : tie.Need-returns
-returns c = let a = c .before .before .before .args in omega (arith, length-row (a .table .now) (a .inputs) (a .k))
+returns c = let a = c .before .before .before .args in omega (arith, length-row-text (a .table .now) (a .inputs) (a .k))
 
 pub row-length-spec : {M : Type 1} → statement M
 row-length-spec =

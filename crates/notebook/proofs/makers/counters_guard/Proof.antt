@@ -4,7 +4,7 @@ use mathlib.Core.List.{List}
 use Prim.Native.Nat.{ℕ}
 use native.Mathlib.Omega.{arith}
 use lib.ListN.{length}
-use Rattle.plan.specs.Model.Table.{guardTableOf, statesOf}
+use Rattle.plan.specs.Model.GuardOfSheet.{guardTableOf, statesOf}
 use Rattle.notebook.specs.Model.Counters.{sheetBytes, Answered}
 use Rattle.notebook.proofs.Answers.{zeros-length, Written, written}
 use Rattle.notebook.proofs.makers.counters_guard.Statement.{statement}

@@ -4,8 +4,8 @@ use mathlib.Core.List.{List}
 use Prim.Native.Nat.{ℕ}
 use native.Mathlib.Omega.{arith}
 use lib.ListN.{length}
-use Rattle.product.specs.Model.Numbered.{stateCount}
-use Rattle.supervisor.specs.Model.Table.{supervisorTable}
+use Rattle.product.specs.Model.ProductNumbering.{stateCount}
+use Rattle.supervisor.specs.Model.SupervisorOfSheet.{supervisorTable}
 use Rattle.notebook.specs.Model.Counters.{sheetBytes, Answered}
 use Rattle.notebook.proofs.Answers.{zeros-length, Written, written}
 use Rattle.notebook.proofs.makers.counters_supervisor.Statement.{statement}

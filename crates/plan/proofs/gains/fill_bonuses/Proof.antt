@@ -1,5 +1,5 @@
 -- `plan::gains::fill_bonuses`: the bonuses of the letters before l are stored. Assumes nothing.
-use Rattle.sheet.specs.Laws.Facts.{site-most, outputs-most}
+use Rattle.sheet.specs.Laws.LayoutFacts.{site-most, outputs-most}
 use mathlib.Core.Path.{_≡_, sym, ap₂, _∙_}
 use mathlib.Core.List.{List, []}
 use Prim.Native.Nat.{ℕ, _-_, _*_, _/_, _%_, _≤_}
@@ -17,14 +17,14 @@ use Rattle.plan.proofs.gains.fill_bonuses.Tie as tie
 
 -- the bonus of letter l
 abbrev bonus : Sheet → ℕ → List ℕ → ℕ → ℕ
-bonus sheet inputs s l = matchReward (decoded s sheet) (l % inputs) (l / inputs)
+bonus sheet ins s l = matchReward (decoded s sheet) (l % ins) (l / ins)
 
 abbrev Inv-loop : tie.InvT-loop
-Inv-loop sheet bonuses₀ inputs outputs l₀ bonuses l =
-    (l ≤ inputs * outputs) × ((s : List ℕ) → bonuses ≡ put bonuses₀ l (bonus sheet inputs s))
+Inv-loop sheet bonuses₀ ins outs l₀ bonuses l =
+    (l ≤ ins * outs) × ((s : List ℕ) → bonuses ≡ put bonuses₀ l (bonus sheet ins s))
 
 abbrev μ-loop : tie.MeasureT-loop
-μ-loop sheet bonuses₀ inputs outputs l₀ bonuses l = inputs * outputs - l
+μ-loop sheet bonuses₀ ins outs l₀ bonuses l = ins * outs - l
 
 -- the places that the needs look back to
 abbrev entry : tie.In-loop Inv-loop μ-loop → tie.Start Inv-loop μ-loop
@@ -35,7 +35,7 @@ turn c = c .before .before
 
 -- what the call says
 matched : (c : tie.After-match-reward Inv-loop μ-loop) (s : List ℕ) → let a = entry (c .before) .args in
-    c .match-reward .result ≡ bonus (a .sheet) (a .inputs) s (turn c .loop .l)
+    c .match-reward .result ≡ bonus (a .sheet) (a .ins) s (turn c .loop .l)
 matched c s = c .match-reward .ensures s
 
 room : (c : tie.At-loop Inv-loop μ-loop) → length (c .loop .bonuses) ≡ length (c .before .before .args .bonuses .now)
@@ -58,7 +58,7 @@ match-reward-requires c κs = (site-most (entry c .pre .0 .1), outputs-most (ent
 
 cast-bonuses : tie.Need-cast-bonuses Inv-loop μ-loop
 cast-bonuses c = let s = entry (c .before) in
-    omega (arith, c .match-reward .ensures (s .pre .0 .0), match-most (decoded (s .pre .0 .0) (s .args .sheet)) (s .pre .0 .1 .ok) (turn c .loop .l % s .args .inputs) (turn c .loop .l / s .args .inputs))
+    omega (arith, c .match-reward .ensures (s .pre .0 .0), match-most (decoded (s .pre .0 .0) (s .args .sheet)) (s .pre .0 .1 .ok) (turn c .loop .l % s .args .ins) (turn c .loop .l / s .args .ins))
 
 mul-bonuses : tie.Need-mul-bonuses Inv-loop μ-loop
 mul-bonuses c = search needs
@@ -74,14 +74,14 @@ loop-less c = omega arith
 
 loop-again : tie.Need-loop-again Inv-loop μ-loop
 loop-again c = let a = entry (c .before) .args in
-    (omega arith, λ s. ap₂ (λ (l : List ℕ) (x : ℕ). set l (turn c .loop .l) x) (turn c .loop .inv .1 s) (matched c s) ∙ put-more _ _ (bonus (a .sheet) (a .inputs) s))
+    (omega arith, λ s. ap₂ (λ (l : List ℕ) (x : ℕ). set l (turn c .loop .l) x) (turn c .loop .inv .1 s) (matched c s) ∙ put-more _ _ (bonus (a .sheet) (a .ins) s))
 
 same-length : tie.Need-same-length Inv-loop μ-loop
 same-length c = room (c .before)
 
 returns : tie.Need-returns Inv-loop μ-loop
 returns c = let a = c .before .before .before .args in
-    let e : c .before .loop .l ≡ a .inputs * a .outputs = omega arith in λ s. c .before .loop .inv .1 s ∙ rw e
+    let e : c .before .loop .l ≡ a .ins * a .outs = omega arith in λ s. c .before .loop .inv .1 s ∙ rw e
 
 pub fill-bonuses-spec : {M : Type 1} → statement M
 fill-bonuses-spec =

@@ -3,7 +3,7 @@ use mathlib.Core.Path.{_≡_, _∙_}
 use Prim.Native.Nat.{_≤_}
 use native.Mathlib.Omega.{arith}
 use lib.ListN.{length}
-use Rattle.values.specs.Model.Values.{Sized}
+use Rattle.values.specs.Model.Values.{SizedGame}
 use Rattle.values.specs.Model.Sizes.{gameOf}
 use Rattle.solve.specs.Laws.Solving.{outputs-low}
 use Rattle.plan.specs.Laws.Planned.{tuples-in-range, counts-low, choices-room, plan-words, plan-sized, plan-valued, plan-following, plan-made}
@@ -41,10 +41,10 @@ chosen-by c = chose (done c .before .before .before) .before .before .before .be
 
 -- the table has the sizes that working out values relies on
 sized : (c : tie.After-fill-bonuses) → let a = entry c .args in
-    Sized (gameOf (a .cells .now) (a .dropped .now) (earned (c .before) .fill-gains .last .1 .1 .1 .0) (c .fill-bonuses .last .1 .0) (a .inputs) (a .outputs)) (a .n)
+    SizedGame (gameOf (a .cells .now) (a .dropped .now) (earned (c .before) .fill-gains .last .1 .1 .1 .0) (c .fill-bonuses .last .1 .0) (a .ins) (a .outs)) (a .n)
 sized c = let s = entry c in
     let long = s .pre .1 .1 .1 in
-    plan-sized (s .pre .0) (s .pre .1 .0) (s .args .inputs) (s .args .outputs) (s .pre .1 .1 .0 .0) (s .pre .1 .1 .0 .1 .0)
+    plan-sized (s .pre .0) (s .pre .1 .0) (s .args .ins) (s .args .outs) (s .pre .1 .1 .0 .0) (s .pre .1 .1 .0 .1 .0)
     (s .args .gains .now) (s .args .bonuses .now) (earned (c .before) .fill-gains .ensures) (c .fill-bonuses .ensures (s .args .s .now))
     (long .gains-long) (long .bonuses-long) (long .cells-long) (long .dropped-long)
 
@@ -54,7 +54,7 @@ fill-gains-requires c κs = let s = start c in
 
 fill-bonuses-requires : tie.Need-fill-bonuses-requires
 fill-bonuses-requires c κs = let s = start (earned c .before) in
-    let counts = counts-low (s .pre .0) (s .pre .1 .0) (s .args .inputs) (s .args .outputs) (s .pre .1 .1 .0 .0) (s .pre .1 .1 .0 .1 .0) in
+    let counts = counts-low (s .pre .0) (s .pre .1 .0) (s .args .ins) (s .args .outs) (s .pre .1 .1 .0 .0) (s .pre .1 .1 .0 .1 .0) in
     ((s .args .s .now, s .pre .0), (counts .0, omega (arith, counts .4, s .pre .1 .1 .1 .bonuses-long)))
 
 value-rows-requires : tie.Need-value-rows-requires
@@ -65,7 +65,7 @@ value-rows-requires c κs = let at = matched (c .before .before .before) in
       sized at,
       (
         (omega (arith, most, long .values-long), omega (arith, most, long .next-long)),
-        plan-words (s .pre .0) (s .pre .1 .0) (s .args .inputs) (s .args .outputs) (s .pre .1 .1 .0 .0) (s .pre .1 .1 .0 .1 .0) (s .args .horizon) (s .pre .1 .1 .0 .1 .1),
+        plan-words (s .pre .0) (s .pre .1 .0) (s .args .ins) (s .args .outs) (s .pre .1 .1 .0 .0) (s .pre .1 .1 .0 .1 .0) (s .args .horizon) (s .pre .1 .1 .0 .1 .1),
       ),
     )
 
@@ -78,13 +78,13 @@ fill-choices-requires c κs = let at = valued (c .before .before .before) in
     let long = s .pre .1 .1 .1 in (
       sized (made at),
       (
-        plan-valued (s .pre .0) (s .pre .1 .0) (s .args .inputs) (s .args .outputs) (s .pre .1 .1 .0 .0) (s .pre .1 .1 .0 .1 .0)
+        plan-valued (s .pre .0) (s .pre .1 .0) (s .args .ins) (s .args .outs) (s .pre .1 .1 .0 .0) (s .pre .1 .1 .0 .1 .0)
             (s .args .gains .now) (s .args .bonuses .now) (earned (made at .before) .fill-gains .ensures) (made at .fill-bonuses .ensures (s .args .s .now))
             (long .gains-long) (long .bonuses-long) (long .cells-long) (long .dropped-long) (s .args .horizon) (s .pre .1 .1 .0 .1 .1)
             (s .args .values .now) (s .args .choices .now) (at .value-rows .ensures .0) (at .value-rows .ensures .1) (long .values-long) (long .choices-long),
         (
           outputs-low (s .pre .0),
-          omega (arith, long .choices-long, choices-room (s .pre .0) (s .pre .1 .0) (s .args .inputs) (s .args .outputs) (s .pre .1 .1 .0 .0) (s .pre .1 .1 .0 .1 .0)),
+          omega (arith, long .choices-long, choices-room (s .pre .0) (s .pre .1 .0) (s .args .ins) (s .args .outs) (s .pre .1 .1 .0 .0) (s .pre .1 .1 .0 .1 .0)),
         ),
       ),
     )
@@ -95,7 +95,7 @@ guard-states-requires c κs = let at = chose (c .before .before) in
     let s = entry (made was) in
     let long = s .pre .1 .1 .1 in
     let most = s .pre .1 .0 .solution .numbering .most in (
-      plan-following (s .pre .0) (s .pre .1 .0) (s .args .inputs) (s .args .outputs) (s .pre .1 .1 .0 .0) (s .pre .1 .1 .0 .1 .0)
+      plan-following (s .pre .0) (s .pre .1 .0) (s .args .ins) (s .args .outs) (s .pre .1 .1 .0 .0) (s .pre .1 .1 .0 .1 .0)
           (s .args .gains .now) (s .args .bonuses .now) (earned (made was .before) .fill-gains .ensures) (made was .fill-bonuses .ensures (s .args .s .now))
           (long .gains-long) (long .bonuses-long) (long .cells-long) (long .dropped-long) (s .args .horizon) (s .pre .1 .1 .0 .1 .1)
           (s .args .values .now) (s .args .choices .now) (was .value-rows .ensures .0) (was .value-rows .ensures .1) (long .values-long) (long .choices-long)
@@ -130,7 +130,7 @@ returns c = let at = chose (done c .before .before .before) in
     let s = entry (made was) in
     let long = s .pre .1 .1 .1 in
     let most = s .pre .1 .0 .solution .numbering .most in
-    plan-made (s .pre .0) (s .pre .1 .0) (s .args .inputs) (s .args .outputs) (s .pre .1 .1 .0 .0) (s .pre .1 .1 .0 .1 .0)
+    plan-made (s .pre .0) (s .pre .1 .0) (s .args .ins) (s .args .outs) (s .pre .1 .1 .0 .0) (s .pre .1 .1 .0 .1 .0)
     (s .args .gains .now) (s .args .bonuses .now) (earned (made was .before) .fill-gains .ensures) (made was .fill-bonuses .ensures (s .args .s .now))
     (long .gains-long) (long .bonuses-long) (long .cells-long) (long .dropped-long) (s .args .horizon) (s .pre .1 .1 .0 .1 .1)
     (s .args .values .now) (s .args .choices .now) (was .value-rows .ensures .0) (was .value-rows .ensures .1) (long .values-long) (long .choices-long)

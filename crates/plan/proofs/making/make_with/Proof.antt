@@ -5,12 +5,12 @@ use native.Mathlib.Omega.{arith}
 use lib.ListN.{length}
 use Rattle.sheet.specs.declared.layout.Verdict.{Verdict}
 use Rattle.guard_rows.specs.Laws.Entered.{count-most}
-use Rattle.plan.specs.Model.Table.{guardTableOf, statesOf}
+use Rattle.plan.specs.Model.GuardOfSheet.{guardTableOf, statesOf}
 use Rattle.plan.specs.Model.Planned.{Room}
 use Rattle.plan.specs.Laws.Planned.{playable, horizon-in-bounds}
 use Rattle.solve.specs.Laws.Solving.{inputs-low, outputs-low}
 use Rattle.solve.specs.Model.Opening.{Opened, Opens}
-use Rattle.plan.specs.Laws.Judged.{layout-short, layout-written}
+use Rattle.plan.specs.Laws.Answered.{layout-short, layout-written}
 use borrow.Author.Needs.{needs}
 use Rattle.plan.proofs.making.make_with.Statement.{statement}
 use Rattle.plan.proofs.making.make_with.Tie as tie

@@ -9,7 +9,7 @@ use denote.Ref.{now}
 use Rattle.records.specs.Laws.Tests.{said-no, said-yes}
 use Rattle.guard_table.specs.Meaning.Loadable.{loadable}
 use Rattle.listing_text.specs.Meaning.Listing.{listingOf}
-use Rattle.report.specs.Laws.Answers.{writes-text, writes-short, writes-no-table, loadable-filled}
+use Rattle.report.specs.Laws.ListingAnswers.{writes-text, writes-short, writes-no-table, loadable-filled}
 use borrow.Author.Needs.{needs}
 use Rattle.report.proofs.Report.list.Statement.{statement}
 use Rattle.report.proofs.Report.list.Tie as tie

@@ -2,7 +2,7 @@
 use mathlib.Core.Path.{sym}
 use native.Mathlib.Omega.{arith}
 use lib.Seq.{length-take-le}
-use Rattle.report.specs.Laws.Answers.{outcome-refused, outcome-listed, outcome-no-table}
+use Rattle.report.specs.Laws.ListingAnswers.{outcome-refused, outcome-listed, outcome-no-table}
 use borrow.Author.Needs.{needs}
 use Rattle.report.proofs.Report.outcome.Statement.{statement}
 use Rattle.report.proofs.Report.outcome.Tie as tie

@@ -6,7 +6,7 @@ use lib.ListN.{length, length-append}
 use Rattle.listing_text.specs.Meaning.Listing.{refusedWord, lineEnd, labelled, refusedText}
 use Rattle.listing_text.specs.Laws.Pieces.{put-then, fits-rest}
 use Rattle.listing_text.specs.Laws.Lengths.{length-refused}
-use Rattle.report.specs.Laws.Answers.{writes-text, writes-short}
+use Rattle.report.specs.Laws.ListingAnswers.{writes-text, writes-short}
 use borrow.Author.Needs.{needs}
 use Rattle.report.proofs.Report.refused.Statement.{statement}
 use Rattle.report.proofs.Report.refused.Tie as tie

@@ -3,7 +3,7 @@ use mathlib.Core.Path.{refl}
 use native.Mathlib.Omega.{arith}
 use Rattle.listing_text.specs.Meaning.Listing.{tooLongText}
 use Rattle.listing_text.specs.Laws.Pieces.{put-as}
-use Rattle.report.specs.Laws.Answers.{writes-text, writes-short}
+use Rattle.report.specs.Laws.ListingAnswers.{writes-text, writes-short}
 use borrow.Author.Needs.{needs}
 use Rattle.report.proofs.Report.too_long.Statement.{statement}
 use Rattle.report.proofs.Report.too_long.Tie as tie

@@ -1,10 +1,10 @@
 -- `sheet::head::head_sheet`: the fields where they stand. Assumes nothing.
 use borrow.Author.Needs.{needs}
-use Rattle.sheet.specs.Model.Head.{headSheet}
+use Rattle.sheet.specs.Model.HeadRecord.{headSheet}
 use Rattle.sheet.proofs.head.head_sheet.Statement.{statement}
 use Rattle.sheet.proofs.head.head_sheet.Tie as tie
 
-abbrev numbered : tie.After-literal-at3 → tie.After-inputs-of
+abbrev numbered : tie.After-literal-at3 → tie.After-guard-lines
 numbered c = c .before .before .before .before .before
 
 add-outputs : tie.Need-add-outputs
@@ -25,17 +25,17 @@ add-t5 c = search needs
 shared-slice-read-t10 : tie.Need-shared-slice-read-t10
 shared-slice-read-t10 c = search needs
 
-shared-slice-read-inputs-of : tie.Need-shared-slice-read-inputs-of
-shared-slice-read-inputs-of c = search needs
+shared-slice-read-guard-lines : tie.Need-shared-slice-read-guard-lines
+shared-slice-read-guard-lines c = search needs
 
-add-inputs-of : tie.Need-add-inputs-of
-add-inputs-of c = search needs
+add-guard-lines : tie.Need-add-guard-lines
+add-guard-lines c = search needs
 
-shared-slice-read-inputs-of-2 : tie.Need-shared-slice-read-inputs-of-2
-shared-slice-read-inputs-of-2 c = search needs
+shared-slice-read-guard-lines-2 : tie.Need-shared-slice-read-guard-lines-2
+shared-slice-read-guard-lines-2 c = search needs
 
-inputs-of-requires : tie.Need-inputs-of-requires
-inputs-of-requires c κs = search needs
+guard-lines-requires : tie.Need-guard-lines-requires
+guard-lines-requires c κs = search needs
 
 add-t17 : tie.Need-add-t17
 add-t17 c = search needs
@@ -60,7 +60,7 @@ literal-at-requires-3 c κs = search needs
 
 returns : tie.Need-returns
 unfolding headSheet
-returns c = simp (c .literal-at3 .ensures, c .before .literal-at2 .ensures, c .before .before .literal-at .ensures, numbered c .inputs-of .ensures, numbered c .before .before .before .before .before .none .ensures)
+returns c = simp (c .literal-at3 .ensures, c .before .literal-at2 .ensures, c .before .before .literal-at .ensures, numbered c .guard-lines .ensures, numbered c .before .before .before .before .before .none .ensures)
 
 pub head-sheet-spec : {M : Type 1} → statement M
 head-sheet-spec =
@@ -72,10 +72,10 @@ head-sheet-spec =
     shared-slice-read-t7
     add-t5
     shared-slice-read-t10
-    shared-slice-read-inputs-of
-    add-inputs-of
-    shared-slice-read-inputs-of-2
-    inputs-of-requires
+    shared-slice-read-guard-lines
+    add-guard-lines
+    shared-slice-read-guard-lines-2
+    guard-lines-requires
     add-t17
     shared-slice-read-t19
     add-t20

@@ -8,10 +8,10 @@ use borrow.Author.Needs.{needs}
 use denote.Ref.{now}
 use lib.ListN.{getD}
 use Rattle.records.specs.Laws.Tests.{said-no, said-yes}
-use Rattle.sheet.specs.Meaning.Decoded.{inputsOf}
+use Rattle.sheet.specs.Meaning.Decoded.{guardLines}
 use Rattle.sheet_fields.specs.Meaning.Head.{headOk}
-use Rattle.sheet.specs.Model.Head.{readHead}
-use Rattle.sheet_fields.specs.Laws.Facts.{Numbers, head-facts}
+use Rattle.sheet.specs.Model.HeadRecord.{readHead}
+use Rattle.sheet_fields.specs.Laws.FieldFacts.{FieldNumbers, head-facts}
 use Rattle.sheet.proofs.head.read_head.Statement.{statement}
 use Rattle.sheet.proofs.head.read_head.Tie as tie
 
@@ -23,20 +23,20 @@ ok : (c : tie.Else1) → headOk (now (entry c .args .s)) (entry c .args .start) 
 ok c = said-yes (c .before .head-ok .ensures) (c .if1 .left)
 
 known : (c : tie.Else1)
-    → Numbers (getD (now (entry c .args .s)) (entry c .args .start + 1) 0)
+    → FieldNumbers (getD (now (entry c .args .s)) (entry c .args .start + 1) 0)
     (getD (now (entry c .args .s)) (entry c .args .start + 2) 0) (entry c .args .size)
 known c = head-facts _ _ _ (ok c)
 
-abbrev passed : tie.After-inputs-of → tie.Else1
+abbrev passed : tie.After-guard-lines → tie.Else1
 passed c = c .before .before .before .before
 
 -- the horizon is held to the guard's inputs
-inputs : (c : tie.After-inputs-of)
-    → inputsOf (getD (now (entry (passed c) .args .s)) (entry (passed c) .args .start) 0)
+inputs : (c : tie.After-guard-lines)
+    → guardLines (getD (now (entry (passed c) .args .s)) (entry (passed c) .args .start) 0)
     (getD (now (entry (passed c) .args .s)) (entry (passed c) .args .start + 1) 0)
     (getD (now (entry (passed c) .args .s)) (entry (passed c) .args .start + 2) 0)
-    ≡ c .inputs-of .result
-inputs c = sym (c .inputs-of .ensures)
+    ≡ c .guard-lines .result
+inputs c = sym (c .guard-lines .ensures)
 
 head-ok-requires : tie.Need-head-ok-requires
 head-ok-requires c κs = search needs
@@ -48,23 +48,23 @@ returns : tie.Need-returns
 unfolding readHead
 returns c = simp (said-no (c .before .before .head-ok .ensures) (c .before .if1 .taken)) (c .refused .ensures)
 
-shared-slice-read-inputs-of : tie.Need-shared-slice-read-inputs-of
-shared-slice-read-inputs-of c = let h = known (c .before) in omega arith
+shared-slice-read-guard-lines : tie.Need-shared-slice-read-guard-lines
+shared-slice-read-guard-lines c = let h = known (c .before) in omega arith
 
-add-inputs-of : tie.Need-add-inputs-of
-add-inputs-of c = search needs
+add-guard-lines : tie.Need-add-guard-lines
+add-guard-lines c = search needs
 
-shared-slice-read-inputs-of-2 : tie.Need-shared-slice-read-inputs-of-2
-shared-slice-read-inputs-of-2 c = let h = known (c .before .before) in omega arith
+shared-slice-read-guard-lines-2 : tie.Need-shared-slice-read-guard-lines-2
+shared-slice-read-guard-lines-2 c = let h = known (c .before .before) in omega arith
 
-add-inputs-of-2 : tie.Need-add-inputs-of-2
-add-inputs-of-2 c = search needs
+add-guard-lines-2 : tie.Need-add-guard-lines-2
+add-guard-lines-2 c = search needs
 
-shared-slice-read-inputs-of-3 : tie.Need-shared-slice-read-inputs-of-3
-shared-slice-read-inputs-of-3 c = let h = known (c .before .before .before) in omega arith
+shared-slice-read-guard-lines-3 : tie.Need-shared-slice-read-guard-lines-3
+shared-slice-read-guard-lines-3 c = let h = known (c .before .before .before) in omega arith
 
-inputs-of-requires : tie.Need-inputs-of-requires
-inputs-of-requires c κs = let h = known (c .before .before .before) in omega arith
+guard-lines-requires : tie.Need-guard-lines-requires
+guard-lines-requires c κs = let h = known (c .before .before .before) in omega arith
 
 add-horizon-ok : tie.Need-add-horizon-ok
 add-horizon-ok c = search needs
@@ -101,12 +101,12 @@ read-head-spec =
     head-ok-requires
     refused-requires
     returns
-    shared-slice-read-inputs-of
-    add-inputs-of
-    shared-slice-read-inputs-of-2
-    add-inputs-of-2
-    shared-slice-read-inputs-of-3
-    inputs-of-requires
+    shared-slice-read-guard-lines
+    add-guard-lines
+    shared-slice-read-guard-lines-2
+    add-guard-lines-2
+    shared-slice-read-guard-lines-3
+    guard-lines-requires
     add-horizon-ok
     shared-slice-read-horizon-ok
     horizon-ok-requires

@@ -3,7 +3,7 @@ use mathlib.Core.Path.{refl}
 use Prim.Native.Nat.{_+_}
 use native.Mathlib.Omega.{arith}
 use borrow.Author.Needs.{needs}
-use Rattle.sheet.specs.Model.Monitor.{monitorAt}
+use Rattle.sheet.specs.Model.MonitorRecord.{monitorAt}
 use Rattle.sheet.proofs.monitor.monitor_at.Statement.{statement}
 use Rattle.sheet.proofs.monitor.monitor_at.Tie as tie
 

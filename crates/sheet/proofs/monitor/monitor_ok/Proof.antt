@@ -11,11 +11,11 @@ use lib.Dec.{leb}
 use lib.ListN.{getD}
 use Rattle.records.specs.Laws.Tests.{cases, said-no, said-yes}
 use Rattle.sheet_fields.specs.Meaning.Monitor.{roleOk, bytesMost, monitorOk}
-use Rattle.sheet_fields.specs.Laws.Facts.{States, states-facts}
+use Rattle.sheet_fields.specs.Laws.FieldFacts.{States, states-facts}
 use Rattle.sheet.proofs.monitor.monitor_ok.Statement.{statement}
 use Rattle.sheet.proofs.monitor.monitor_ok.Tie as tie
 
-abbrev lettered : tie.After-states-ok → tie.After-letters-of
+abbrev lettered : tie.After-states-ok → tie.After-letters-read
 lettered c = c .before .before .before
 
 abbrev roled : tie.After-states-ok → tie.Else2
@@ -37,7 +37,7 @@ role c = said-yes (roled c .before .role-ok .ensures) (roled c .if2 .left)
 known : (c : tie.Else3)
     → States (getD (now (entry (c .before) .args .s)) (entry (c .before) .args .start + 2) 0)
     (getD (now (entry (c .before) .args .s)) (entry (c .before) .args .start + 3) 0)
-    (lettered (c .before) .letters-of .result) (entry (c .before) .args .size)
+    (lettered (c .before) .letters-read .result) (entry (c .before) .args .size)
 known c = states-facts _ _ _ _ (said-yes (c .before .states-ok .ensures) (c .if3 .left))
 
 -- each accept byte is held to 1
@@ -67,11 +67,11 @@ returns-2 : tie.Need-returns-2
 unfolding monitorOk
 returns-2 c = search (cases, said-no (c .before .role-ok .ensures) (c .if2 .taken))
 
-shared-slice-read-letters-of : tie.Need-shared-slice-read-letters-of
-shared-slice-read-letters-of c = search needs
+shared-slice-read-letters-read : tie.Need-shared-slice-read-letters-read
+shared-slice-read-letters-read c = search needs
 
-letters-of-requires : tie.Need-letters-of-requires
-letters-of-requires c κs = search needs
+letters-read-requires : tie.Need-letters-read-requires
+letters-read-requires c κs = search needs
 
 add-states : tie.Need-add-states
 add-states c = search needs
@@ -91,7 +91,7 @@ states-ok-requires c κs = search needs
 returns-3 : tie.Need-returns-3
 unfolding monitorOk
 returns-3 c = let t = c .before in
-    simp (sized t, role t, ← lettered t .letters-of .ensures .0, said-no (t .states-ok .ensures) (c .if3 .taken))
+    simp (sized t, role t, ← lettered t .letters-read .ensures .0, said-no (t .states-ok .ensures) (c .if3 .taken))
 
 cast-n : tie.Need-cast-n
 cast-n c = let h = known c in omega arith
@@ -108,7 +108,7 @@ returns-4 c = let t = c .before .before .before in
     simp (
       sized t,
       role t,
-      ← lettered t .letters-of .ensures .0,
+      ← lettered t .letters-read .ensures .0,
       said-yes (t .states-ok .ensures) (c .before .before .if3 .left),
       said-no (accepts (c .before)) (c .if4 .taken),
     )
@@ -134,7 +134,7 @@ returns-5 c = let t = c .before .before .before .before in
     simp (
       sized t,
       role t,
-      ← lettered t .letters-of .ensures .0,
+      ← lettered t .letters-read .ensures .0,
       said-yes (t .states-ok .ensures) (c .before .before .before .if3 .left),
       said-yes (accepts (c .before .before)) (c .before .if4 .left),
     ) (c .bytes-most2 .ensures)
@@ -149,8 +149,8 @@ monitor-ok-spec =
     shared-slice-read-role-ok-2
     role-ok-requires
     returns-2
-    shared-slice-read-letters-of
-    letters-of-requires
+    shared-slice-read-letters-read
+    letters-read-requires
     add-states
     shared-slice-read-states
     add-states-ok

@@ -7,7 +7,7 @@ use borrow.Author.Needs.{needs}
 use lib.Dec.{leb}
 use Rattle.records.specs.Laws.Tests.{said-no, said-yes}
 use Rattle.records.specs.Meaning.Limits.{maxMonitors}
-use Rattle.sheet.specs.Model.Monitor.{takeMonitor}
+use Rattle.sheet.specs.Model.MonitorRecord.{takeMonitor}
 use Rattle.sheet.proofs.Facts.{monitor-least}
 use Rattle.sheet.proofs.monitor.take_monitor.Statement.{statement}
 use Rattle.sheet.proofs.monitor.take_monitor.Tie as tie

@@ -4,7 +4,7 @@ use borrow.Author.Tests.{le-leb}
 use borrow.Author.Needs.{needs}
 use Rattle.records.specs.Laws.Tests.{cases, said-no, said-yes}
 use Rattle.sheet_fields.specs.Meaning.Head.{headOk}
-use Rattle.sheet_fields.specs.Laws.Facts.{numbers-facts}
+use Rattle.sheet_fields.specs.Laws.FieldFacts.{numbers-facts}
 use Rattle.sheet_fields.proofs.head.head_ok.Statement.{statement}
 use Rattle.sheet_fields.proofs.head.head_ok.Tie as tie
 

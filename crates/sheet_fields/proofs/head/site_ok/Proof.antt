@@ -13,16 +13,16 @@ returns-2 : tie.Need-returns-2
 unfolding siteOk
 returns-2 c = search cases
 
-inputs-of-requires : tie.Need-inputs-of-requires
-inputs-of-requires c κs = search needs
+guard-lines-requires : tie.Need-guard-lines-requires
+guard-lines-requires c κs = search needs
 
 lines-ok-requires : tie.Need-lines-ok-requires
 lines-ok-requires c κs = search needs
 
 returns-3 : tie.Need-returns-3
 unfolding siteOk
-returns-3 c = search (cases, c .lines-ok .ensures, c .before .inputs-of .ensures)
+returns-3 c = search (cases, c .lines-ok .ensures, c .before .guard-lines .ensures)
 
 pub site-ok-spec : {M : Type 1} → statement M
 site-ok-spec =
-    tie.close (tie.spec returns returns-2 inputs-of-requires lines-ok-requires returns-3)
+    tie.close (tie.spec returns returns-2 guard-lines-requires lines-ok-requires returns-3)

@@ -5,7 +5,7 @@ use borrow.Author.Tests.{not-true, not-false}
 use Rattle.sheet.specs.Meaning.Grounds.{verdictNumber}
 use Rattle.sheet.specs.Model.Where.{Fits, decoded}
 use Rattle.solve.specs.Model.Solve.{Solution, Solves}
-use Rattle.solve.specs.Laws.Opening.{opens-short, opens-refused, opens-many, opens-lost, opens-solved}
+use Rattle.solve.proofs.Opened.{opens-short, opens-refused, opens-many, opens-lost, opens-solved}
 use Rattle.solve.specs.declared.solving.Solved.{Solved}
 use borrow.Author.Needs.{needs}
 use Rattle.solve.proofs.opening.open_sheet.Statement.{statement}

@@ -5,11 +5,11 @@ use native.Mathlib.Omega.{arith}
 use lib.ListN.{length}
 use Rattle.records.specs.Meaning.Limits.{maxStates}
 use Rattle.sheet.specs.declared.layout.Verdict.{Verdict}
-use Rattle.product.specs.Model.Numbered.{stateCount, cellsLength}
-use Rattle.supervisor_table.specs.Model.Rows.{tableLength}
+use Rattle.product.specs.Model.ProductNumbering.{stateCount, cellsLength}
+use Rattle.supervisor_table.specs.Model.MaskRows.{maskTableLength}
 use Rattle.solve.specs.Model.Opening.{Opened, Opens}
 use Rattle.solve.specs.Laws.Solving.{inputs-low, outputs-low, few-inputs, few-outputs, layout-steps}
-use Rattle.supervisor.specs.Model.Table.{supervisorTable}
+use Rattle.supervisor.specs.Model.SupervisorOfSheet.{supervisorTable}
 use Rattle.supervisor.proofs.Layouts.{layout-short, layout-written}
 use borrow.Author.Needs.{needs}
 use Rattle.supervisor.proofs.make.make_with.Statement.{statement}
@@ -94,7 +94,7 @@ cast-put-head : tie.Need-cast-put-head
 cast-put-head c = omega (arith, ready (told (c .before .before .before)) .solution .numbering .most)
 
 put-head-requires : tie.Need-put-head-requires
-unfolding tableLength
+unfolding maskTableLength
 put-head-requires c κs = omega (arith, c .before .before .table-length .ensures)
 
 pow2-requires-2 : tie.Need-pow2-requires-2
@@ -107,12 +107,12 @@ put-rows-requires c κs =
     let r = ready (told (at .before .before)) in
     let numbering = r .solution .numbering in
     let long = rooms (told (at .before .before)) in
-    let inputs = at .before .before .pow2 .ensures in
-    let outputs = c .pow22 .ensures in (
-      layout-steps (r .fits) numbering _ _ inputs outputs (long .0),
+    let ins = at .before .before .pow2 .ensures in
+    let outs = c .pow22 .ensures in (
+      layout-steps (r .fits) numbering _ _ ins outs (long .0),
       (
         omega (arith, numbering .most, long .1),
-        (numbering .most, (few-inputs (r .fits) inputs, (few-outputs (r .fits) outputs, omega (arith, at .before .table-length .ensures)))),
+        (numbering .most, (few-inputs (r .fits) ins, (few-outputs (r .fits) outs, omega (arith, at .before .table-length .ensures)))),
       ),
     )
 

@@ -1,6 +1,6 @@
 -- `supervisor::make::work_ok`: the tests in the definition's order. Assumes nothing.
 use Rattle.records.specs.Laws.Tests.{cases}
-use Rattle.supervisor.specs.Promises.Supervisor.{workOk}
+use Rattle.supervisor.specs.Promises.SupervisorMaker.{workOk}
 use Rattle.supervisor.proofs.make.work_ok.Statement.{statement}
 use Rattle.supervisor.proofs.make.work_ok.Tie as tie
 

@@ -6,47 +6,47 @@ use lib.ListN.{length}
 use native.Mathlib.Omega.{arith}
 use borrow.Author.Needs.{needs}
 use Rattle.records.specs.Laws.Tests.{said}
-use Rattle.rounds.specs.Model.Rounds.{cellAt}
-use Rattle.rounds.specs.Laws.Cells.{InRow, Leads, in-row, leads-at}
+use Rattle.rounds.specs.Model.TableRounds.{cellAt}
+use Rattle.rounds.specs.Laws.CellPlaces.{InRow, CellLeads, in-row, leads-at}
 use Rattle.values.specs.Model.Values.{Game}
 use Rattle.values.specs.Model.Sizes.{gameOf}
-use Rattle.values.specs.Laws.Sizes.{steps-of, entered, letter-low}
+use Rattle.values.specs.Laws.Sizes.{steps-of, entered, cell-letter-low}
 use Rattle.values.proofs.Best.{scorable}
 use Rattle.values.proofs.Leading.{leading, lead-begin, lead-more, lead-same, lead-low, lead-end}
 use Rattle.values.proofs.choice.choose_output.Statement.{statement}
 use Rattle.values.proofs.choice.choose_output.Tie as tie
 
 abbrev Inv-loop : tie.InvT-loop
-Inv-loop cells dropped gains bonuses inputs outputs literals count values factor k i leader₀ o₀ leader o =
-    (o ≤ outputs) × (leader ≡ leading (gameOf cells dropped gains bonuses inputs outputs) literals count values factor k i o)
+Inv-loop cells dropped gains bonuses ins outs literals count values factor k i leader₀ o₀ leader o =
+    (o ≤ outs) × (leader ≡ leading (gameOf cells dropped gains bonuses ins outs) literals count values factor k i o)
 
 abbrev μ-loop : tie.MeasureT-loop
-μ-loop cells dropped gains bonuses inputs outputs literals count values factor k i leader₀ o₀ leader o = outputs - o
+μ-loop cells dropped gains bonuses ins outs literals count values factor k i leader₀ o₀ leader o = outs - o
 
 abbrev entry : tie.At-loop Inv-loop μ-loop → tie.Start Inv-loop μ-loop
 entry c = c .before .before .before .before .before .before .before
 
 abbrev game : tie.Start Inv-loop μ-loop → Game
-game s = gameOf (s .args .cells .now) (s .args .dropped .now) (s .args .gains .now) (s .args .bonuses .now) (s .args .inputs) (s .args .outputs)
+game s = gameOf (s .args .cells .now) (s .args .dropped .now) (s .args .gains .now) (s .args .bonuses .now) (s .args .ins) (s .args .outs)
 
 -- the cell of output o
 row : (c : tie.In-loop Inv-loop μ-loop)
-    → let a = entry (c .before) .args in InRow (a .inputs) (a .outputs) (a .k) (a .i) (c .before .loop .o)
+    → let a = entry (c .before) .args in InRow (a .ins) (a .outs) (a .k) (a .i) (c .before .loop .o)
 row c =
     let p = entry (c .before) .pre in
     in-row (steps-of (p .0 .sized)) (omega arith) (p .0 .state) (p .1 .0) (c .loop-test .taken)
 
 leads : (c : tie.In-loop Inv-loop μ-loop)
     → let a = entry (c .before) .args in
-    Leads (a .cells .now) (a .dropped .now) (cellAt (a .inputs) (a .outputs) (a .k) (a .i) (c .before .loop .o))
+    CellLeads (a .cells .now) (a .dropped .now) (cellAt (a .ins) (a .outs) (a .k) (a .i) (c .before .loop .o))
 leads c =
     let p = entry (c .before) .pre in
     leads-at (steps-of (p .0 .sized)) (entered (p .0 .sized) (p .0 .state)) (p .1 .0) (c .loop-test .taken) refl
 
 letter : (c : tie.In-loop Inv-loop μ-loop)
-    → entry (c .before) .args .i + entry (c .before) .args .inputs * c .before .loop .o < length (entry (c .before) .args .bonuses .now)
+    → entry (c .before) .args .i + entry (c .before) .args .ins * c .before .loop .o < length (entry (c .before) .args .bonuses .now)
 letter c =
-    let p = entry (c .before) .pre in omega (arith, letter-low (p .1 .0) (c .loop-test .taken), p .0 .sized .bonuses)
+    let p = entry (c .before) .pre in omega (arith, cell-letter-low (p .1 .0) (c .loop-test .taken), p .0 .sized .bonuses)
 
 none-requires : tie.Need-none-requires Inv-loop μ-loop
 none-requires c κs = search needs
@@ -102,7 +102,7 @@ cast-result c = let h = c .before .before in
 
 returns : tie.Need-returns Inv-loop μ-loop
 returns c = let h = c .before .before in
-    let e : h .loop .o ≡ entry h .args .outputs = omega arith in
+    let e : h .loop .o ≡ entry h .args .outs = omega arith in
     lead-end (game (entry h)) _ _ _ _ _ _ _ e (h .loop .inv .1)
 
 pub choose-output-spec : {M : Type 1} → statement M

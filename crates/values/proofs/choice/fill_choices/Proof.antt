@@ -8,17 +8,17 @@ use Rattle.records.specs.Laws.Lists.{put-none, put-more, length-put}
 use Rattle.values.specs.Model.Values.{choices}
 use Rattle.values.specs.Model.Sizes.{gameOf}
 use Rattle.values.specs.Model.Leaders.{literalsOf}
-use Rattle.values.specs.Laws.Choices.{choiceAt}
+use Rattle.values.specs.Laws.Choices.{choiceIn}
 use Rattle.values.proofs.choice.fill_choices.Statement.{statement}
 use Rattle.values.proofs.choice.fill_choices.Tie as tie
 
 abbrev Inv-loop : tie.InvT-loop
-Inv-loop cells dropped gains bonuses inputs outputs n literals count values factor chosen₀ at₀ chosen at =
-    (at ≤ n * inputs)
-    × (chosen ≡ put chosen₀ at (choiceAt (gameOf cells dropped gains bonuses inputs outputs) (literalsOf literals count) values factor))
+Inv-loop cells dropped gains bonuses ins outs n literals count values factor chosen₀ at₀ chosen at =
+    (at ≤ n * ins)
+    × (chosen ≡ put chosen₀ at (choiceIn (gameOf cells dropped gains bonuses ins outs) (literalsOf literals count) values factor))
 
 abbrev μ-loop : tie.MeasureT-loop
-μ-loop cells dropped gains bonuses inputs outputs n literals count values factor chosen₀ at₀ chosen at = n * inputs - at
+μ-loop cells dropped gains bonuses ins outs n literals count values factor chosen₀ at₀ chosen at = n * ins - at
 
 abbrev entry : tie.At-loop Inv-loop μ-loop → tie.Start Inv-loop μ-loop
 entry c = c .before .before .before .before .before .before .before
@@ -37,7 +37,7 @@ rem-choose-output c = omega (arith, entry (c .before) .pre .0 .inputs-least)
 
 choose-output-requires : tie.Need-choose-output-requires Inv-loop μ-loop
 choose-output-requires c κs = let p = entry (c .before) .pre in
-    let some : 0 < entry (c .before) .args .inputs = p .0 .inputs-least in (
+    let some : 0 < entry (c .before) .args .ins = p .0 .inputs-least in (
       record { states = _; sized = p .0; valued = p .1 .0; state = div-lt-iff-lt-mul some .1 (c .loop-test .taken) },
       (mod-lt _ some, p .1 .1 .0),
     )
@@ -59,7 +59,7 @@ same-length c = rw (c .before .loop .inv .1, length-put)
 
 returns : tie.Need-returns Inv-loop μ-loop
 unfolding choices
-returns c = let e : c .before .loop .at ≡ entry (c .before) .args .n * entry (c .before) .args .inputs = omega arith in
+returns c = let e : c .before .loop .at ≡ entry (c .before) .args .n * entry (c .before) .args .ins = omega arith in
     c .before .loop .inv .1 ∙ rw e
 
 pub fill-choices-spec : {M : Type 1} → statement M

@@ -26,11 +26,11 @@ loop-holds c = (omega arith, sym (rank-none _ _))
 mul-rank : tie.Need-mul-rank Inv-loop μ-loop
 mul-rank c = omega (arith, small (c .before))
 
-array-read-holds : tie.Need-array-read-holds Inv-loop μ-loop
-array-read-holds c = omega arith
+array-read-literal-holds : tie.Need-array-read-literal-holds Inv-loop μ-loop
+array-read-literal-holds c = omega arith
 
-holds-requires : tie.Need-holds-requires Inv-loop μ-loop
-holds-requires c κs = search needs
+literal-holds-requires : tie.Need-literal-holds-requires Inv-loop μ-loop
+literal-holds-requires c κs = search needs
 
 add-rank : tie.Need-add-rank Inv-loop μ-loop
 add-rank c = omega (arith, small (c .before .before .before))
@@ -46,8 +46,8 @@ loop-again c = (
   omega arith,
   rw rank-more
       (⊎-elim
-      (λ w. w .1 ∙ rw (said (c .before .holds .ensures) (w .0 .taken), c .before .before .before .loop .inv .1) (omega arith))
-      (λ w. w .1 ∙ rw (said (c .before .holds .ensures) (w .0 .left), c .before .before .before .loop .inv .1) (omega arith))
+      (λ w. w .1 ∙ rw (said (c .before .literal-holds .ensures) (w .0 .taken), c .before .before .before .loop .inv .1) (omega arith))
+      (λ w. w .1 ∙ rw (said (c .before .literal-holds .ensures) (w .0 .left), c .before .before .before .loop .inv .1) (omega arith))
       (c .if1 .came)),
 )
 
@@ -62,8 +62,8 @@ rank-of-spec =
     μ-loop
     loop-holds
     mul-rank
-    array-read-holds
-    holds-requires
+    array-read-literal-holds
+    literal-holds-requires
     add-rank
     add-j
     loop-less

@@ -7,45 +7,45 @@ use native.Mathlib.Omega.{arith}
 use borrow.Author.Needs.{needs}
 use Rattle.records.specs.Laws.Bounded.{top-none}
 use Rattle.records.specs.Laws.Tests.{said}
-use Rattle.rounds.specs.Model.Rounds.{cellAt}
-use Rattle.rounds.specs.Laws.Cells.{InRow, Leads, in-row, leads-at}
+use Rattle.rounds.specs.Model.TableRounds.{cellAt}
+use Rattle.rounds.specs.Laws.CellPlaces.{InRow, CellLeads, in-row, leads-at}
 use Rattle.values.specs.Model.Values.{Game}
 use Rattle.values.specs.Model.Sizes.{gameOf}
-use Rattle.values.specs.Laws.Sizes.{steps-of, entered, letter-low}
+use Rattle.values.specs.Laws.Sizes.{steps-of, entered, cell-letter-low}
 use Rattle.values.proofs.Best.{bestBefore, scorable, best-more, best-same}
 use Rattle.values.proofs.values.best_score.Statement.{statement}
 use Rattle.values.proofs.values.best_score.Tie as tie
 
 abbrev Inv-loop : tie.InvT-loop
-Inv-loop cells dropped gains bonuses inputs outputs values factor k i best₀ o₀ best o =
-    (o ≤ outputs) × (best ≡ bestBefore (gameOf cells dropped gains bonuses inputs outputs) values factor k i o)
+Inv-loop cells dropped gains bonuses ins outs values factor k i best₀ o₀ best o =
+    (o ≤ outs) × (best ≡ bestBefore (gameOf cells dropped gains bonuses ins outs) values factor k i o)
 
 abbrev μ-loop : tie.MeasureT-loop
-μ-loop cells dropped gains bonuses inputs outputs values factor k i best₀ o₀ best o = outputs - o
+μ-loop cells dropped gains bonuses ins outs values factor k i best₀ o₀ best o = outs - o
 
 abbrev entry : tie.In-loop Inv-loop μ-loop → tie.Start Inv-loop μ-loop
 entry c = c .before .before .before .before .before .before .before
 
 abbrev game : tie.Start Inv-loop μ-loop → Game
-game s = gameOf (s .args .cells .now) (s .args .dropped .now) (s .args .gains .now) (s .args .bonuses .now) (s .args .inputs) (s .args .outputs)
+game s = gameOf (s .args .cells .now) (s .args .dropped .now) (s .args .gains .now) (s .args .bonuses .now) (s .args .ins) (s .args .outs)
 
 -- the cell of output o
-row : (c : tie.In-loop Inv-loop μ-loop) → InRow (entry c .args .inputs) (entry c .args .outputs) (entry c .args .k) (entry c .args .i) (c .before .loop .o)
+row : (c : tie.In-loop Inv-loop μ-loop) → InRow (entry c .args .ins) (entry c .args .outs) (entry c .args .k) (entry c .args .i) (c .before .loop .o)
 row c =
     let r = entry c .pre .0 in in-row (steps-of (r .sized)) (omega arith) (r .state) (entry c .pre .1) (c .loop-test .taken)
 
 leads : (c : tie.In-loop Inv-loop μ-loop)
-    → Leads (entry c .args .cells .now) (entry c .args .dropped .now)
-    (cellAt (entry c .args .inputs) (entry c .args .outputs) (entry c .args .k) (entry c .args .i) (c .before .loop .o))
+    → CellLeads (entry c .args .cells .now) (entry c .args .dropped .now)
+    (cellAt (entry c .args .ins) (entry c .args .outs) (entry c .args .k) (entry c .args .i) (c .before .loop .o))
 leads c =
     let r = entry c .pre .0 in
     leads-at (steps-of (r .sized)) (entered (r .sized) (r .state)) (entry c .pre .1) (c .loop-test .taken) refl
 
 letter : (c : tie.In-loop Inv-loop μ-loop)
-    → entry c .args .i + entry c .args .inputs * c .before .loop .o < length (entry c .args .bonuses .now)
+    → entry c .args .i + entry c .args .ins * c .before .loop .o < length (entry c .args .bonuses .now)
 letter c =
     let s = entry c in
-    omega (arith, letter-low (s .pre .1) (c .loop-test .taken), s .pre .0 .sized .bonuses)
+    omega (arith, cell-letter-low (s .pre .1) (c .loop-test .taken), s .pre .0 .sized .bonuses)
 
 loop-holds : tie.Need-loop-holds Inv-loop μ-loop
 loop-holds c = (omega arith, sym (top-none _ _))
@@ -88,7 +88,7 @@ loop-again c = let i = c .before .before in
     )
 
 returns : tie.Need-returns Inv-loop μ-loop
-returns c = let e : c .before .loop .o ≡ c .before .before .before .before .before .before .before .args .outputs = omega arith in
+returns c = let e : c .before .loop .o ≡ c .before .before .before .before .before .before .before .args .outs = omega arith in
     c .before .loop .inv .1 ∙ rw e
 
 pub best-score-spec : {M : Type 1} → statement M

@@ -4,7 +4,7 @@ use Prim.Native.Nat.{_+_, _*_, _^_, _≤_}
 use lib.ListN.{getD}
 use native.Mathlib.Omega.{arith}
 use native.Mathlib.Nat.{mul-le-mul}
-use Rattle.values.specs.Model.Sizes.{scoreAt}
+use Rattle.values.specs.Model.Sizes.{scoreIn}
 use borrow.Author.Needs.{needs}
 use Rattle.values.proofs.values.score_of.Statement.{statement}
 use Rattle.values.proofs.values.score_of.Tie as tie
@@ -54,7 +54,7 @@ add-result : tie.Need-add-result
 add-result c = omega (arith, earned (c .before), entry (c .before) .pre .value)
 
 returns : tie.Need-returns
-unfolding scoreAt
+unfolding scoreIn
 returns c = refl
 
 pub score-of-spec : {M : Type 1} → statement M

@@ -11,11 +11,11 @@ use Rattle.values.proofs.values.value_round.Statement.{statement}
 use Rattle.values.proofs.values.value_round.Tie as tie
 
 abbrev Inv-loop : tie.InvT-loop
-Inv-loop cells dropped gains bonuses inputs outputs n values next₀ factor k₀ next k =
-    (k ≤ n) × (next ≡ put next₀ k (worth (gameOf cells dropped gains bonuses inputs outputs) values factor))
+Inv-loop cells dropped gains bonuses ins outs n values next₀ factor k₀ next k =
+    (k ≤ n) × (next ≡ put next₀ k (worth (gameOf cells dropped gains bonuses ins outs) values factor))
 
 abbrev μ-loop : tie.MeasureT-loop
-μ-loop cells dropped gains bonuses inputs outputs n values next₀ factor k₀ next k = n - k
+μ-loop cells dropped gains bonuses ins outs n values next₀ factor k₀ next k = n - k
 
 abbrev entry : tie.At-loop Inv-loop μ-loop → tie.Start Inv-loop μ-loop
 entry c = c .before .before .before .before .before .before .before

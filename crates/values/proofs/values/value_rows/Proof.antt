@@ -10,11 +10,11 @@ use Rattle.values.proofs.values.value_rows.Statement.{statement}
 use Rattle.values.proofs.values.value_rows.Tie as tie
 
 abbrev Inv-loop : tie.InvT-loop
-Inv-loop cells dropped gains bonuses inputs outputs n values₀ next₀ horizon factor₀ p₀ values next factor p =
-    Iterated (gameOf cells dropped gains bonuses inputs outputs) n horizon values₀ next₀ values next factor p
+Inv-loop cells dropped gains bonuses ins outs n values₀ next₀ horizon factor₀ p₀ values next factor p =
+    Iterated (gameOf cells dropped gains bonuses ins outs) n horizon values₀ next₀ values next factor p
 
 abbrev μ-loop : tie.MeasureT-loop
-μ-loop cells dropped gains bonuses inputs outputs n values₀ next₀ horizon factor₀ p₀ values next factor p = horizon - p
+μ-loop cells dropped gains bonuses ins outs n values₀ next₀ horizon factor₀ p₀ values next factor p = horizon - p
 
 -- the places: the function's start, the cleared row, and the head of a turn
 abbrev entry : tie.After-clear-front64 Inv-loop μ-loop → tie.Start Inv-loop μ-loop
@@ -27,7 +27,7 @@ abbrev head : tie.After-copy-row Inv-loop μ-loop → tie.At-loop Inv-loop μ-lo
 head c = c .before .before .before .before .before .before .before .before .before
 
 abbrev game : tie.Start Inv-loop μ-loop → Game
-game s = gameOf (s .args .cells .now) (s .args .dropped .now) (s .args .gains .now) (s .args .bonuses .now) (s .args .inputs) (s .args .outputs)
+game s = gameOf (s .args .cells .now) (s .args .dropped .now) (s .args .gains .now) (s .args .bonuses .now) (s .args .ins) (s .args .outs)
 
 fits : (c : tie.After-clear-front64 Inv-loop μ-loop)
     → Fits (game (entry c)) (entry c .args .n) (entry c .args .horizon) (c .clear-front64 .last .0) (entry c .args .next .now)

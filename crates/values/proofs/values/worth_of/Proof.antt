@@ -11,17 +11,17 @@ use Rattle.values.proofs.values.worth_of.Statement.{statement}
 use Rattle.values.proofs.values.worth_of.Tie as tie
 
 abbrev Inv-loop : tie.InvT-loop
-Inv-loop cells dropped gains bonuses inputs outputs values factor k sum₀ i₀ sum i =
-    (i ≤ inputs) × (sum ≡ summed (gameOf cells dropped gains bonuses inputs outputs) values factor k i)
+Inv-loop cells dropped gains bonuses ins outs values factor k sum₀ i₀ sum i =
+    (i ≤ ins) × (sum ≡ summed (gameOf cells dropped gains bonuses ins outs) values factor k i)
 
 abbrev μ-loop : tie.MeasureT-loop
-μ-loop cells dropped gains bonuses inputs outputs values factor k sum₀ i₀ sum i = inputs - i
+μ-loop cells dropped gains bonuses ins outs values factor k sum₀ i₀ sum i = ins - i
 
 abbrev entry : tie.After-is-kept Inv-loop μ-loop → tie.Start Inv-loop μ-loop
 entry c = c .before .before .before .before .before .before
 
 abbrev game : tie.Start Inv-loop μ-loop → Game
-game s = gameOf (s .args .cells .now) (s .args .dropped .now) (s .args .gains .now) (s .args .bonuses .now) (s .args .inputs) (s .args .outputs)
+game s = gameOf (s .args .cells .now) (s .args .dropped .now) (s .args .gains .now) (s .args .bonuses .now) (s .args .ins) (s .args .outs)
 
 abbrev turn : tie.After-best-score Inv-loop μ-loop → tie.At-loop Inv-loop μ-loop
 turn c = c .before .before
@@ -58,7 +58,7 @@ loop-again c = (
 
 returns-2 : tie.Need-returns-2 Inv-loop μ-loop
 returns-2 c = let s = entry (c .before .before .before) in
-    let e : c .before .loop .i ≡ s .args .inputs = omega arith in
+    let e : c .before .loop .i ≡ s .args .ins = omega arith in
     worth-kept (game s) _ _ _ (said-yes (c .before .before .before .is-kept .ensures) (c .before .before .if1 .left))
     (c .before .loop .inv .1 ∙ rw e)
 

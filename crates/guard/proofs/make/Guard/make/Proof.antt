@@ -5,10 +5,10 @@ use native.Mathlib.Omega.{arith}
 use lib.ListN.{length}
 use Rattle.records.specs.Meaning.Numbers.{zeros}
 use Rattle.solve.specs.Model.Making.{Answers}
-use Rattle.plan.specs.Model.Table.{guardTableOf, statesOf}
-use Rattle.guard.specs.Promises.Guard.{Work, lent, MakesGuard}
-use Rattle.guard.specs.Laws.Lent.{work-room}
-use Rattle.guard.specs.Laws.Written.{guard-promise}
+use Rattle.plan.specs.Model.GuardOfSheet.{guardTableOf, statesOf}
+use Rattle.guard.specs.Promises.GuardMaker.{Work, lent, MakesGuard}
+use Rattle.guard.proofs.Lent.{work-room}
+use Rattle.guard.proofs.Promise.{guard-promise}
 use Rattle.guard.proofs.make.Guard.make.Statement.{statement}
 use Rattle.guard.proofs.make.Guard.make.Tie as tie
 

@@ -4,11 +4,11 @@ use mathlib.Core.Bool.{Bool}
 use native.Mathlib.Omega.{arith}
 use lib.ListN.{length}
 use Rattle.records.specs.Meaning.Numbers.{zeros}
-use Rattle.product.specs.Model.Numbered.{stateCount}
+use Rattle.product.specs.Model.ProductNumbering.{stateCount}
 use Rattle.solve.specs.Model.Making.{Answers}
-use Rattle.supervisor.specs.Model.Table.{supervisorTable}
-use Rattle.supervisor.specs.Promises.Supervisor.{MakesSupervisor}
-use Rattle.supervisor.specs.Laws.Written.{work-room, supervisor-promise}
+use Rattle.supervisor.specs.Model.SupervisorOfSheet.{supervisorTable}
+use Rattle.supervisor.specs.Promises.SupervisorMaker.{MakesSupervisor}
+use Rattle.supervisor.proofs.Promise.{work-room, supervisor-promise}
 use borrow.Author.Needs.{needs}
 use Rattle.supervisor.proofs.make.Supervisor.make.Statement.{statement}
 use Rattle.supervisor.proofs.make.Supervisor.make.Tie as tie

@@ -1,0 +1,196 @@
+-- The maker's answer for a sheet, told, is what is printed for it; and it fits the text memory.
+-- Assumes nothing.
+use mathlib.Core.Path.{_≡_, refl, sym, ap, ap₂, _∙_}
+use mathlib.Core.Bool.{Bool, true, false, cond}
+use mathlib.Core.List.{List}
+use Prim.Native.Nat.{ℕ, zero, suc, _≤_, _<_}
+use native.Mathlib.Omega.{arith}
+use lib.Dec.{ltb, eqb}
+use lib.ListN.{length, take}
+use lib.Seq.{sets, length-sets, take-append-seam}
+use borrow.Author.Tests.{ltb-false, le-leb, lt-leb, ne-eqb}
+use Rattle.records.specs.Laws.Tests.{by-test}
+use Rattle.records.specs.Meaning.Limits.{maxStates}
+use Rattle.records.specs.Laws.Lists.{sets-front}
+use Rattle.records.specs.Meaning.Numbers.{Bytes}
+use Rattle.guard_table.specs.Model.Inside.{tableMost}
+use Rattle.guard_table.specs.Laws.GuardTable.{table-most}
+use Rattle.sheet.specs.Meaning.Decoded.{Decoded, SheetOk, inputLines}
+use Rattle.sheet.specs.Meaning.Grounds.{groundNumber}
+use Rattle.sheet.specs.Laws.Grounds.{some-number}
+use Rattle.sheet.specs.Meaning.Refusals.{sheetNumber, firstNumber}
+use Rattle.sheet.specs.Laws.Reading.{reads}
+use Rattle.sheet.specs.declared.layout.Refusal.{Refusal}
+use Rattle.product.specs.Model.ProductNumbering.{stateCount}
+use Rattle.rounds.specs.Model.TableRounds.{isIn}
+use Rattle.solve.specs.Model.Steps.{droppedOf}
+use Rattle.solve.specs.Model.Making.{sheetOf, manyNumber, lostNumber, roomNumber, tableNumber, makingNumber, Answers}
+use Rattle.supervisor.specs.Promises.SupervisorMaker.{tuplesLength, cellsLength, droppedLength}
+use Rattle.solve.specs.declared.made.Made.{Made}
+use Rattle.solve.specs.declared.made.Made.the-variants.{Table, Refused}
+use Rattle.guard_table.specs.Meaning.Loadable.{loadable}
+use Rattle.plan.specs.Model.GuardOfSheet.{outputOf, nextOf, guardOver, guardTableOf, statesOf}
+use Rattle.guard.specs.Promises.GuardMaker.{gainsLength, bonusesLength, valuesLength, choicesLength, orderLength, Work, workOk, MakesGuard}
+use Rattle.guard.specs.Model.Lent.{Long}
+use Rattle.plan.specs.Laws.Reaching.{guard-fits}
+use Rattle.plan.specs.Laws.Solved.{sheet-horizon}
+use Rattle.guard.specs.Laws.Running.{table-loads}
+use Rattle.plan.specs.Laws.Answered.{length-guard}
+use Rattle.listing_text.specs.Meaning.Listing.{listing, listingOf, tooLongText}
+use Rattle.report.specs.Promises.Report.{Writes, textLength, outcomeDue, outcomeText, listedLength}
+use Rattle.report.specs.Laws.ListingAnswers.{writes-fits, outcome-most, listing-made}
+use Rattle.report.specs.declared.Listed.{Listed}
+use Rattle.listing.specs.Promises.Printed.{sheetMost, sheetGround, guardText, printed, Prints}
+
+-- ---- a sheet that is accepted
+
+solved : (d : Decoded) → firstNumber (manyNumber d) (lostNumber d) ≡ 0 → (stateCount d ≤ maxStates) × (isIn (droppedOf d) 0 ≡ true)
+unfolding manyNumber lostNumber
+solved d e = let r = pass (ltb maxStates (stateCount d)) (isIn (droppedOf d) 0) e in (ltb-false maxStates (stateCount d) (r .0), r .1)
+  where
+    pass : (a b : Bool) → firstNumber (cond a 7 0) (cond b 0 8) ≡ 0 → (a ≡ false) × (b ≡ true)
+    pass true b e = absurd (omega arith)
+    pass false true e = (refl, refl)
+    pass false false e = absurd (omega arith)
+
+both : (m n : ℕ) → firstNumber m n ≡ 0 → (m ≡ 0) × (n ≡ 0)
+both zero n e = (refl, e)
+both (suc m) n e = absurd (omega arith)
+
+accepted : (s : List ℕ) → sheetGround s ≡ 0 → (sheetNumber s ≡ 0) × (stateCount (sheetOf s) ≤ maxStates) × (isIn (droppedOf (sheetOf s)) 0 ≡ true)
+unfolding sheetGround
+accepted s e = let r = both (sheetNumber s) (firstNumber (manyNumber (sheetOf s)) (lostNumber (sheetOf s))) e in
+    let g = solved (sheetOf s) (r .1) in (r .0, g .0, g .1)
+
+module _ (s : List ℕ) (bytes : Bytes s) (none : sheetNumber s ≡ 0) where
+  ok : SheetOk (sheetOf s)
+  unfolding sheetOf
+  ok = reads s bytes .fits (reads s bytes .number ∙ none) .ok
+
+  module _ (fits : stateCount (sheetOf s) ≤ maxStates) (start : isIn (droppedOf (sheetOf s)) 0 ≡ true) where
+    -- its table is loadable
+    loads : loadable (guardTableOf (sheetOf s)) ≡ true
+    unfolding guardTableOf
+    loads = let d = sheetOf s in table-loads d fits start (ok .head) (d .horizon) (sheet-horizon d (ok .horizon))
+
+    -- and fits the result memory
+    short : length (guardTableOf (sheetOf s)) ≤ tableMost
+    short =
+        let d = sheetOf s in
+        let few : statesOf d ≤ maxStates = omega (arith, guard-fits d fits (d .horizon) start) in
+        omega (arith, length-guard d, table-most (inputLines d) (statesOf d) (ok .head .inputs) few)
+
+-- ---- the listing of a sheet's guard table is that of the model's entries
+
+pub listing-entries : (d : Decoded)
+    → listingOf (guardTableOf d)
+    ≡ listing (statesOf d) (inputLines d) (d .outputs) (d .horizon) (outputOf d (d .horizon)) (nextOf d (d .horizon))
+unfolding guardTableOf guardOver
+listing-entries d =
+    listing-made (d .mode) (inputLines d) (d .outputs) (d .horizon) (statesOf d) (outputOf d (d .horizon)) (nextOf d (d .horizon))
+
+-- ---- the number of the maker's answer
+
+number-as : (d : Decoded) (size room : ℕ) → (stateCount d ≤ maxStates → isIn (droppedOf d) 0 ≡ true → size ≤ room)
+    → tableNumber d size room ≡ firstNumber (manyNumber d) (lostNumber d)
+unfolding tableNumber manyNumber lostNumber roomNumber
+number-as d size room h =
+    by-test (ltb maxStates (stateCount d)) (λ e. rw e)
+    (λ e. by-test (isIn (droppedOf d) 0) (λ f. rw (e, f, le-leb size room (h (ltb-false maxStates (stateCount d) e) f))) (λ f. rw (e, f)))
+
+-- with enough work memory, and result memory of the longest table
+making-as : (s : List ℕ) → Bytes s → makingNumber guardTableOf true s tableMost ≡ sheetGround s
+unfolding makingNumber sheetGround
+making-as s bytes = go (sheetNumber s) refl
+  where
+    go : (n : ℕ) → sheetNumber s ≡ n
+        → firstNumber n (tableNumber (sheetOf s) (length (guardTableOf (sheetOf s))) tableMost)
+        ≡ firstNumber n (firstNumber (manyNumber (sheetOf s)) (lostNumber (sheetOf s)))
+    go zero e = number-as (sheetOf s) (length (guardTableOf (sheetOf s))) tableMost (short s bytes e)
+    go (suc n) e = refl
+
+-- ---- what is told of it
+
+front : (before table : List ℕ) → length table ≤ length before → take (length table) (sets before 0 table) ≡ table
+front before table h = rw (sets-front before table h) (take-append-seam table _)
+
+-- a ground has a number
+some-ground : (g : Refusal) → eqb (groundNumber g) 0 ≡ false
+some-ground g = ne-eqb (groundNumber g) 0 (λ z. omega (arith, some-number g .1))
+
+-- a text is due, and it is the one that is printed
+pub record Tells (s : List ℕ) (due : Bool) (words : List ℕ) : Type 0 where
+  pub due-is : due ≡ true
+  pub words-are : words ≡ guardText s
+
+pub outcome-tells : (s : List ℕ) → Bytes s → (before : List ℕ) → length before ≡ tableMost → (r : Made) {after : List ℕ}
+    → Answers guardTableOf statesOf true s before r after → Tells s (outcomeDue r after) (outcomeText r after)
+unfolding outcomeDue outcomeText guardText
+outcome-tells s bytes before size (Table count states) {after} answers =
+    let d = sheetOf s in
+    let none : sheetGround s ≡ 0 = sym (making-as s bytes) ∙ ap (makingNumber guardTableOf true s) (sym size) ∙ sym (answers .number) in
+    let a = accepted s none in
+    let fits : length (guardTableOf d) ≤ length before = omega (arith, short s bytes (a .0) (a .1) (a .2)) in
+    let table : take count after ≡ guardTableOf d =
+    ap₂ take (answers .size) (answers .bytes) ∙ front before (guardTableOf d) fits in
+    let inside : count ≤ length after =
+    omega (arith, answers .size, ap length (answers .bytes) ∙ length-sets before 0 (guardTableOf d)) in
+    record {
+      due-is = rw (le-leb count (length after) inside, table) (loads s bytes (a .0) (a .1) (a .2));
+      words-are = rw (table, none);
+    }
+outcome-tells s bytes before size (Refused ground) {after} answers =
+    let same : groundNumber ground ≡ sheetGround s =
+    answers .number ∙ ap (makingNumber guardTableOf true s) size ∙ making-as s bytes in
+    record { due-is = refl; words-are = rw (← same, some-ground ground) }
+
+-- ---- what is left of it in the text memory
+
+-- a text that is due and fits, by its length
+pub writes-prints : {due : Bool} {r : ℕ} {words text before : List ℕ} {x : Listed} {after : List ℕ} → Writes due words before x after
+    → due ≡ true → length words ≤ length before → words ≡ text → r ≡ listedLength x → Prints text before r after
+writes-prints {before = before} w e h f g =
+    let none = writes-fits w e h in
+    record {
+      size = g ∙ w .size ∙ rw none (ap length f);
+      bytes = w .bytes ∙ rw none (ap (λ (l : List ℕ). sets before 0 l) f);
+      inside = omega (arith, w .inside);
+    }
+
+-- work memory that is long enough
+work-enough : (w : Work) → Long w → workOk w ≡ true
+unfolding workOk
+work-enough w h =
+    simp (
+      le-leb tuplesLength (w .tuples) (h .tuples),
+      le-leb cellsLength (w .cells) (h .cells),
+      le-leb droppedLength (w .dropped) (h .dropped),
+      le-leb gainsLength (w .gains) (h .gains),
+      le-leb bonusesLength (w .bonuses) (h .bonuses),
+      le-leb valuesLength (w .values) (h .values),
+      le-leb valuesLength (w .next) (h .next),
+      le-leb choicesLength (w .choices) (h .choices),
+      le-leb orderLength (w .order) (h .order),
+      le-leb orderLength (w .numbers) (h .numbers),
+    )
+
+-- what the maker answered, told in enough text memory
+pub outcome-prints : {s before : List ℕ} {w : Work} {made : Made} {after : List ℕ} → MakesGuard s before w made after → Bytes s
+    → length before ≡ tableMost → Long w → {memory : List ℕ} {x : Listed} {now : List ℕ} → textLength ≤ length memory
+    → Writes (outcomeDue made after) (outcomeText made after) memory x now → {r : ℕ} → r ≡ listedLength x
+    → Prints (guardText s) memory r now
+outcome-prints {s} {before} {w} {made} {after} m bytes size long {memory} room writes e =
+    let answers : Answers guardTableOf statesOf true s before made after = rw (work-enough w long) at (m .makes .answers) in
+    let told = outcome-tells s bytes before size made answers in
+    writes-prints writes (told .due-is) (omega (arith, outcome-most made after (told .due-is))) (told .words-are) e
+
+-- by the test of the length
+pub prints-guard : (s : List ℕ) {before : List ℕ} {r : ℕ} {after : List ℕ} → length s ≤ sheetMost → Prints (guardText s) before r after
+    → Prints (printed s) before r after
+unfolding printed
+prints-guard s h p = rw (le-leb (length s) sheetMost h) p
+
+pub prints-long : (s : List ℕ) {before : List ℕ} {r : ℕ} {after : List ℕ} → sheetMost < length s → Prints tooLongText before r after
+    → Prints (printed s) before r after
+unfolding printed
+prints-long s h p = rw (lt-leb (length s) sheetMost h) p

@@ -1,2 +1,0 @@
--- Theorems that other crates and the sources cite.
-pub mod Printing
