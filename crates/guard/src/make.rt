@@ -1,47 +1,49 @@
 // The maker of guard tables.
 use plan::making::make_with;
+use product::tuple::Product;
 use records::clear::clear8;
 use records::clear::clear16;
 use records::clear::clear64;
+use records::limits::Limits;
 use solve::made::Made;
 ghost use mathlib.Core.Path.{_≡_};
+ghost use mathlib.Core.List.{[], _∷_};
 ghost use lib.ListN.{length};
 ghost use Rattle.records.specs.Meaning.Numbers.{zeros};
-ghost use Rattle.guard.specs.Promises.GuardMaker.{lent, workOk, MakesGuard};
+ghost use Rattle.records.specs.Meaning.Work.{longEnough};
+ghost use Rattle.guard.specs.Promises.GuardMaker.{guardWork, MakesGuard};
 
 // The maker: the work memory that it needs.
-pub struct Guard {
-    pub made: Made,
-}
+pub struct Guard {}
 
 impl Guard {
-    // A tuple of twelve bytes for each product state.
-    pub const TUPLES: usize = 3072;
+    // The tuple of each product state.
+    pub const TUPLES: usize = Product::PLACES * Limits::STATES;
 
     // The table of steps: a cell for each product state and letter.
-    pub const CELLS: usize = 16384;
+    pub const CELLS: usize = Limits::LETTERS * Limits::STATES;
 
     // The round that dropped each product state.
-    pub const DROPPED: usize = 256;
+    pub const DROPPED: usize = Limits::STATES;
 
     // What the soft monitors earn in each product state.
-    pub const GAINS: usize = 256;
+    pub const GAINS: usize = Limits::STATES;
 
     // What equal lines earn by each letter.
-    pub const BONUSES: usize = 64;
+    pub const BONUSES: usize = Limits::LETTERS;
 
     // What each product state is worth, and what it is worth one step earlier.
-    pub const VALUES: usize = 256;
+    pub const VALUES: usize = Limits::STATES;
 
-    pub const NEXT: usize = 256;
+    pub const NEXT: usize = Limits::STATES;
 
     // The output that each product state chooses at each input.
-    pub const CHOICES: usize = 4096;
+    pub const CHOICES: usize = Limits::INS * Limits::STATES;
 
     // The product state of each guard state, and for each product state its number in the guard and 1 more.
-    pub const ORDER: usize = 256;
+    pub const ORDER: usize = Limits::STATES;
 
-    pub const NUMBERS: usize = 256;
+    pub const NUMBERS: usize = Limits::STATES;
 
     // Makes the guard table of a sheet. The work memory may hold anything, and is zero afterwards.
     pub fn make(
@@ -58,7 +60,7 @@ impl Guard {
         order: &mut [u16],
         numbers: &mut [u16],
     ) -> Made
-        ensures made { λ r. ⌜ MakesGuard (now (sheet .entry)) (now (result .entry)) (lent (length (now (tuples .entry))) (length (now (cells .entry))) (length (now (dropped .entry))) (length (now (gains .entry))) (length (now (bonuses .entry))) (length (now (values .entry))) (length (now (next .entry))) (length (now (choices .entry))) (length (now (order .entry))) (length (now (numbers .entry)))) r (now (result .exit)) ⌝ }
+        ensures made { λ r. ⌜ MakesGuard (now (sheet .entry)) (now (result .entry)) (length (now (tuples .entry)) ∷ length (now (cells .entry)) ∷ length (now (dropped .entry)) ∷ length (now (gains .entry)) ∷ length (now (bonuses .entry)) ∷ length (now (values .entry)) ∷ length (now (next .entry)) ∷ length (now (choices .entry)) ∷ length (now (order .entry)) ∷ length (now (numbers .entry)) ∷ []) r (now (result .exit)) ⌝ }
         ensures tuples { λ _. ⌜ now (tuples .exit) ≡ zeros (length (now (tuples .entry))) ⌝ }
         ensures cells { λ _. ⌜ now (cells .exit) ≡ zeros (length (now (cells .entry))) ⌝ }
         ensures dropped { λ _. ⌜ now (dropped .exit) ≡ zeros (length (now (dropped .entry))) ⌝ }
@@ -124,7 +126,7 @@ fn work_ok(
     order: usize,
     numbers: usize,
 ) -> bool
-    ensures { λ r. ⌜ r ≡ workOk (lent tuples cells dropped gains bonuses values next choices order numbers) ⌝ }
+    ensures { λ r. ⌜ r ≡ longEnough guardWork (tuples ∷ cells ∷ dropped ∷ gains ∷ bonuses ∷ values ∷ next ∷ choices ∷ order ∷ numbers ∷ []) ⌝ }
 {
     if tuples < Guard::TUPLES {
         return false;
@@ -153,5 +155,8 @@ fn work_ok(
     if order < Guard::ORDER {
         return false;
     }
-    Guard::NUMBERS <= numbers
+    if numbers < Guard::NUMBERS {
+        return false;
+    }
+    true
 }

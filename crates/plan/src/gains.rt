@@ -7,10 +7,12 @@ ghost use mathlib.Core.Path.{_≡_};
 ghost use mathlib.Core.List.{List};
 ghost use Prim.Native.Nat.{ℕ, _*_, _/_, _%_, _≤_, _<_};
 ghost use lib.ListN.{length};
+ghost use Rattle.records.specs.Meaning.Limits.{maxStates};
 ghost use Rattle.records.specs.Model.Lists.{put};
 ghost use Rattle.sheet.specs.Model.Where.{Fits, decoded};
 ghost use Rattle.product.specs.Model.Range.{InRange};
 ghost use Rattle.product.specs.Meaning.Step.{softReward, weightOf};
+ghost use Rattle.product.specs.Model.ProductNumbering.{tuplesLength};
 ghost use Rattle.product.specs.Model.States.{tupleAt};
 ghost use Rattle.product.specs.Model.Stages.{matchReward};
 
@@ -18,7 +20,7 @@ ghost use Rattle.product.specs.Model.Stages.{matchReward};
 pub fn fill_gains(s: &[u8], sheet: Sheet, tuples: &[u8], gains: &mut [u16], n: usize)
     requires { ⌜ Fits (now s) sheet ⌝ }
     requires { ⌜ ((k : ℕ) → k < n → InRange (decoded (now s) sheet) (tupleAt (now tuples) k)) ⌝ }
-    requires { ⌜ (n ≤ 256) × ((3072 ≤ length (now tuples)) × (n ≤ length (now gains))) ⌝ }
+    requires { ⌜ (n ≤ maxStates) × ((tuplesLength ≤ length (now tuples)) × (n ≤ length (now gains))) ⌝ }
     ensures { λ _. ⌜ now (gains .exit) ≡ put (now (gains .entry)) n (λ k. softReward (weightOf (decoded (now (s .entry)) sheet)) (decoded (now (s .entry)) sheet) (tupleAt (now (tuples .entry)) k)) ⌝ }
 {
     let mut k: usize = 0;

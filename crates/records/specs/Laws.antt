@@ -8,3 +8,4 @@ pub mod Lists
 pub mod Numbers
 pub mod Stores
 pub mod Tests
+pub mod Work

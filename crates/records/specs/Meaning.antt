@@ -5,3 +5,4 @@ pub mod Records
 pub mod Limits
 pub mod Lists
 pub mod Numbers
+pub mod Work

@@ -15,6 +15,11 @@ impl Limits {
     // Input and output lines together.
     pub const LINES: u8 = 6;
 
+    // So many inputs and letters they make.
+    pub const INS: usize = 1 << Limits::INPUTS;
+
+    pub const LETTERS: usize = 1 << Limits::LINES;
+
     // The horizon; inputs × horizon too.
     pub const HORIZON: u8 = 24;
 

@@ -5,11 +5,9 @@ use mathlib.Core.Bool.{Bool, true, false}
 use mathlib.Core.List.{List, _∷_, _++_}
 use Prim.Native.Nat.{ℕ, _^_, _≤_, _<_}
 use native.Mathlib.Omega.{arith}
-use lib.Dec.{leb}
 use lib.ListN.{length}
 use lib.Seq.{sets}
-use borrow.Author.Tests.{leb-true}
-use Rattle.records.specs.Laws.Tests.{and-left, and-right}
+use Rattle.records.specs.Meaning.Work.{longEnough, askedBytes}
 use Rattle.records.specs.Meaning.Limits.{maxStates}
 use Rattle.records.specs.Meaning.Lists.{cat}
 use Rattle.records.specs.Laws.Lists.{sets-append}
@@ -30,7 +28,7 @@ use Rattle.solve.specs.Model.Solve.{Solution}
 use Rattle.solve.specs.Meaning.Allowed.{Accepted}
 use Rattle.solve.specs.Model.Making.{Judges, Answers}
 use Rattle.solve.specs.Promises.Making.{Makes}
-use Rattle.supervisor.specs.Promises.SupervisorMaker.{tuplesLength, cellsLength, droppedLength, workOk, Means, MakesSupervisor}
+use Rattle.supervisor.specs.Promises.SupervisorMaker.{supervisorWork, Means, MakesSupervisor}
 use Rattle.supervisor.specs.Laws.Bytes.{length-table}
 use Rattle.solve.specs.Laws.Solving.{layout-inputs, layout-outputs}
 use Rattle.supervisor.proofs.TableSolved.{layout-head, solution-table}
@@ -39,17 +37,6 @@ use Rattle.supervisor.proofs.Only.{only-table}
 use Rattle.solve.specs.Laws.Judging.{Only, judges-short, judges-made, makes, accepted-layout, written-front}
 use Rattle.solve.specs.declared.made.Made.{Made}
 use Rattle.solve.specs.declared.made.Made.the-variants.{Table, Refused}
-
--- ---- work memory
-
--- each slice is as long as its constant
-pub work-room : (tuples cells dropped : ℕ) → workOk tuples cells dropped ≡ true
-    → (tuplesLength ≤ tuples) × ((cellsLength ≤ cells) × (droppedLength ≤ dropped))
-unfolding workOk
-work-room tuples cells dropped e = (
-  leb-true tuplesLength tuples (and-left _ _ e),
-  (leb-true cellsLength cells (search (and-left, and-right)), leb-true droppedLength dropped (search (and-left, and-right))),
-)
 
 -- ---- the returns, once the sheet is solved
 
@@ -102,10 +89,11 @@ layout-made {s} {h} fits {n} {kept} {start} {tuples} {cells} {dropped} solution 
 -- ---- the promise
 
 -- the whole promise, from the answer by the model
-pub supervisor-makes : {s before : List ℕ} {r : Made} {after : List ℕ} (tuples cells dropped : ℕ)
-    → Answers supervisorTable stateCount (workOk tuples cells dropped) s before r after
-    → Reads s (reading s) → Only s → MakesSupervisor s before tuples cells dropped r after
-supervisor-makes {s} {before} {r} {after} tuples cells dropped answers read only =
+pub supervisor-makes : {s before : List ℕ} {r : Made} {after : List ℕ} (lent : List ℕ)
+    → Answers supervisorTable stateCount (longEnough supervisorWork lent) s before r after
+    → Reads s (reading s) → Only s → MakesSupervisor s before lent r after
+unfolding askedBytes
+supervisor-makes {s} {before} {r} {after} lent answers read only =
     record {
       makes = all;
       means = table-means;
@@ -116,15 +104,13 @@ supervisor-makes {s} {before} {r} {after} tuples cells dropped answers read only
       work-bytes = omega arith;
     }
   where
-    all : Makes supervisorTable stateCount (workOk tuples cells dropped) s before r after
+    all : Makes supervisorTable stateCount (longEnough supervisorWork lent) s before r after
     all = makes supervisorTable stateCount answers read only
 
     table-means : (d : Decoded) → Accepted s d → Means d (stateCount d) (supervisorTable d)
     table-means d a = means d (accepted-layout a) (a .sheet .in-bounds) (a .realizable)
 
 -- the same of any bytes, by the laws of the reader
-pub supervisor-promise : {s before : List ℕ} {r : Made} {after : List ℕ} (tuples cells dropped : ℕ) → Bytes s
-    → Answers supervisorTable stateCount (workOk tuples cells dropped) s before r after
-    → MakesSupervisor s before tuples cells dropped r after
-supervisor-promise {s} tuples cells dropped bytes answers =
-    supervisor-makes tuples cells dropped answers (reads s bytes) (only-sheet s)
+pub supervisor-promise : {s before : List ℕ} {r : Made} {after : List ℕ} (lent : List ℕ) → Bytes s
+    → Answers supervisorTable stateCount (longEnough supervisorWork lent) s before r after → MakesSupervisor s before lent r after
+supervisor-promise {s} lent bytes answers = supervisor-makes lent answers (reads s bytes) (only-sheet s)

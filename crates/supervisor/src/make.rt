@@ -1,7 +1,9 @@
 // The maker of supervisor tables.
 use records::clear::clear8;
 use records::clear::clear16;
+use records::limits::Limits;
 use records::numbers::pow2;
+use product::tuple::Product;
 use sheet::layout::Refusal;
 use sheet::layout::Verdict;
 use solve::made::Made;
@@ -11,29 +13,29 @@ use supervisor_table::put_rows;
 use supervisor_table::table_length;
 ghost use mathlib.Core.Path.{_≡_};
 ghost use mathlib.Core.Bool.{true};
+ghost use mathlib.Core.List.{[], _∷_};
 ghost use Prim.Native.Nat.{_≤_};
 ghost use lib.ListN.{length};
 ghost use Rattle.records.specs.Meaning.Limits.{maxStates};
 ghost use Rattle.records.specs.Meaning.Numbers.{zeros};
+ghost use Rattle.records.specs.Meaning.Work.{longEnough};
 ghost use Rattle.product.specs.Model.ProductNumbering.{stateCount, tuplesLength, cellsLength};
 ghost use Rattle.solve.specs.Model.Making.{Answers};
 ghost use Rattle.supervisor.specs.Model.SupervisorOfSheet.{supervisorTable};
-ghost use Rattle.supervisor.specs.Promises.SupervisorMaker.{workOk, MakesSupervisor};
+ghost use Rattle.supervisor.specs.Promises.SupervisorMaker.{supervisorWork, MakesSupervisor};
 
 // The maker: the work memory that it needs.
-pub struct Supervisor {
-    pub made: Made,
-}
+pub struct Supervisor {}
 
 impl Supervisor {
-    // A tuple of twelve bytes for each product state.
-    pub const TUPLES: usize = 3072;
+    // The tuple of each product state.
+    pub const TUPLES: usize = Product::PLACES * Limits::STATES;
 
     // The table of steps: a cell for each product state and letter.
-    pub const CELLS: usize = 16384;
+    pub const CELLS: usize = Limits::LETTERS * Limits::STATES;
 
     // The round that dropped each product state.
-    pub const DROPPED: usize = 256;
+    pub const DROPPED: usize = Limits::STATES;
 
     // Makes the supervisor table of a sheet. The work memory may hold anything, and is zero afterwards.
     pub fn make(
@@ -43,7 +45,7 @@ impl Supervisor {
         cells: &mut [u16],
         dropped: &mut [u16],
     ) -> Made
-        ensures made { λ r. ⌜ MakesSupervisor (now (sheet .entry)) (now (result .entry)) (length (now (tuples .entry))) (length (now (cells .entry))) (length (now (dropped .entry))) r (now (result .exit)) ⌝ }
+        ensures made { λ r. ⌜ MakesSupervisor (now (sheet .entry)) (now (result .entry)) (length (now (tuples .entry)) ∷ length (now (cells .entry)) ∷ length (now (dropped .entry)) ∷ []) r (now (result .exit)) ⌝ }
         ensures tuples { λ _. ⌜ now (tuples .exit) ≡ zeros (length (now (tuples .entry))) ⌝ }
         ensures cells { λ _. ⌜ now (cells .exit) ≡ zeros (length (now (cells .entry))) ⌝ }
         ensures dropped { λ _. ⌜ now (dropped .exit) ≡ zeros (length (now (dropped .entry))) ⌝ }
@@ -59,7 +61,7 @@ impl Supervisor {
 
 // Whether every slice of work memory is long enough.
 fn work_ok(tuples: usize, cells: usize, dropped: usize) -> bool
-    ensures { λ r. ⌜ r ≡ workOk tuples cells dropped ⌝ }
+    ensures { λ r. ⌜ r ≡ longEnough supervisorWork (tuples ∷ cells ∷ dropped ∷ []) ⌝ }
 {
     if tuples < Supervisor::TUPLES {
         return false;
@@ -67,7 +69,10 @@ fn work_ok(tuples: usize, cells: usize, dropped: usize) -> bool
     if cells < Supervisor::CELLS {
         return false;
     }
-    Supervisor::DROPPED <= dropped
+    if dropped < Supervisor::DROPPED {
+        return false;
+    }
+    true
 }
 
 // The opening's refusals, then 9, and the result is written only then. The work memory is left as it falls; `ok` says that it is long

@@ -8,6 +8,7 @@ use rounds::leads_to_kept;
 ghost use mathlib.Core.Path.{_≡_};
 ghost use Prim.Native.Nat.{_+_, _*_, _^_, _≤_, _<_, max};
 ghost use lib.ListN.{length, getD};
+ghost use Rattle.records.specs.Meaning.Limits.{maxHorizon};
 ghost use Rattle.records.specs.Model.Lists.{put};
 ghost use Rattle.rounds.specs.Model.TableRounds.{cellAt, leadsIn};
 ghost use Rattle.rounds.specs.Laws.CellPlaces.{InRow, CellLeads};
@@ -188,7 +189,7 @@ pub fn value_rows(
 ) -> u64
     requires { ⌜ SizedGame (gameOf (now cells) (now dropped) (now gains) (now bonuses) ins outs) n ⌝ }
     requires { ⌜ (n ≤ length (now values)) × (n ≤ length (now next)) ⌝ }
-    requires { ⌜ (horizon ≤ 24) × (ins ^ horizon ≤ 2 ^ 24) ⌝ }
+    requires { ⌜ (horizon ≤ maxHorizon) × (ins ^ horizon ≤ 2 ^ maxHorizon) ⌝ }
     ensures row { λ _. ⌜ now (values .exit) ≡ valueRow (gameOf (now (cells .entry)) (now (dropped .entry)) (now (gains .entry)) (now (bonuses .entry)) ins outs) n (now (values .entry)) horizon ⌝ }
     ensures words { λ r. ⌜ r ≡ ins ^ horizon ⌝ }
 {

@@ -1,78 +1,37 @@
 -- What making a guard table promises: what every maker does, and demand 3 of the bytes.
 -- Assumes nothing.
 use mathlib.Core.Path.{_≡_}
-use mathlib.Core.Bool.{Bool, _&&_}
-use mathlib.Core.List.{List}
-use Prim.Native.Nat.{ℕ, _+_, _*_, _≤_, _<_}
-use lib.Dec.{leb}
+use mathlib.Core.List.{List, [], _∷_}
+use Prim.Native.Nat.{ℕ, _≤_, _<_}
 use lib.ListN.{length, getD, take}
+use Rattle.records.specs.Meaning.Limits.{maxStates, maxLetters}
+use Rattle.records.specs.Meaning.Work.{Slice, bytes, pairs, eights, longEnough, askedBytes}
 use Rattle.guard_table.specs.Meaning.GuardTable.{tableLength, guardTable}
 use Rattle.sheet.specs.Meaning.Decoded.{Decoded, inputLines}
 use Rattle.product.specs.Meaning.Step.{inputsOf, advance, firstTuple}
 use Rattle.solve.specs.Meaning.Allowed.{Accepted}
 use Rattle.solve.specs.Meaning.Made.{madeNumber, madeLength, madeStates}
 use Rattle.solve.specs.Promises.Making.{Makes}
-use Rattle.supervisor.specs.Promises.SupervisorMaker.{tuplesLength, cellsLength, droppedLength}
+use Rattle.solve.specs.Promises.Work.{openingWork, workMost}
 use Rattle.solve.specs.declared.made.Made.{Made}
 use Rattle.guard.specs.Meaning.Faithful.{Move, GuardStates, Faithful}
-use Rattle.plan.specs.Model.GuardOfSheet.{guardTableOf, statesOf}
+use Rattle.plan.specs.Model.GuardOfSheet.{guardTableBy, statesBy, ownHorizon}
+use Rattle.plan.specs.Model.Planned.{choicesLength}
 
--- ---- work memory: how long each slice must be, beside those of the supervisor's maker
+-- ---- work memory
 
-abbrev pub gainsLength : ℕ
-gainsLength = 256
-
-abbrev pub bonusesLength : ℕ
-bonusesLength = 64
-
-abbrev pub valuesLength : ℕ
-valuesLength = 256
-
-abbrev pub choicesLength : ℕ
-choicesLength = 4096
-
-abbrev pub orderLength : ℕ
-orderLength = 256
-
--- the lengths that were lent
-pub record Work : Type 0 where
-  pub tuples : ℕ
-  pub cells : ℕ
-  pub dropped : ℕ
-  pub gains : ℕ
-  pub bonuses : ℕ
-  pub values : ℕ
-  pub next : ℕ
-  pub choices : ℕ
-  pub order : ℕ
-  pub numbers : ℕ
-
--- by name, from the slices in turn
-abbrev pub lent : ℕ → ℕ → ℕ → ℕ → ℕ → ℕ → ℕ → ℕ → ℕ → ℕ → Work
-lent tuples cells dropped gains bonuses values next choices order numbers =
-    record {
-      tuples = tuples;
-      cells = cells;
-      dropped = dropped;
-      gains = gains;
-      bonuses = bonuses;
-      values = values;
-      next = next;
-      choices = choices;
-      order = order;
-      numbers = numbers;
-    }
-
-unfoldable pub workOk : Work → Bool
-workOk w =
-    leb tuplesLength (w .tuples)
-    && (leb cellsLength (w .cells)
-    && (leb droppedLength (w .dropped)
-    && (leb gainsLength (w .gains)
-    && (leb bonusesLength (w .bonuses)
-    && (leb valuesLength (w .values)
-    && (leb valuesLength (w .next)
-    && (leb choicesLength (w .choices) && (leb orderLength (w .order) && leb orderLength (w .numbers)))))))))
+-- beside the opening's: gains, bonuses, values, next, choices, order, numbers
+abbrev pub guardWork : List Slice
+guardWork =
+    openingWork
+    (pairs maxStates
+    ∷ pairs maxLetters
+    ∷ eights maxStates
+    ∷ eights maxStates
+    ∷ bytes choicesLength
+    ∷ pairs maxStates
+    ∷ pairs maxStates
+    ∷ [])
 
 -- ---- what the rows of a guard table are
 
@@ -93,20 +52,21 @@ pub record Rows (d : Decoded) (h n : ℕ) (table : List ℕ) : Type 0 where
   pub lands : (k i : ℕ) → k < n → i < inputsOf d
       → getD tuples (next k i) (firstTuple d) ≡ advance d (getD tuples k (firstTuple d)) i (output k i)
 
--- ---- the promise: `before` and `after` are the result memory, `w` the lengths of the work memory
+-- ---- the promise: `before` and `after` are the result memory, `lent` the lengths of the work memory
 
-pub record MakesGuard (s before : List ℕ) (w : Work) (r : Made) (after : List ℕ) : Type 0 where
-  pub makes : Makes guardTableOf statesOf (workOk w) s before r after
+-- over a horizon that is found from the sheet
+pub record MakesOver (horizon : Decoded → ℕ) (s before lent : List ℕ) (r : Made) (after : List ℕ) : Type 0 where
+  pub makes : Makes (guardTableBy horizon) (statesBy horizon) (longEnough guardWork lent) s before r after
   -- of the table of every accepted sheet, also where the result is too short for it
-  pub rows : (d : Decoded) → Accepted s d → Rows d (d .horizon) (statesOf d) (guardTableOf d)
+  pub rows : (d : Decoded) → Accepted s d → Rows d (horizon d) (statesBy horizon d) (guardTableBy horizon d)
   -- which no other bytes have
-  pub only : (d : Decoded) → Accepted s d → (n : ℕ) (table : List ℕ) → Rows d (d .horizon) n table → table ≡ guardTableOf d
+  pub only : (d : Decoded) → Accepted s d → (n : ℕ) (table : List ℕ) → Rows d (horizon d) n table → table ≡ guardTableBy horizon d
   -- of the bytes that were written, as a slice of their own: these rows, and demand 3
-  pub written : madeNumber r ≡ 0 → (d : Decoded) → Accepted s d → Rows d (d .horizon) (madeStates r) (take (madeLength r) after)
-  pub faithful : madeNumber r ≡ 0 → (d : Decoded) → Accepted s d → Faithful d (d .horizon) (take (madeLength r) after)
+  pub written : madeNumber r ≡ 0 → (d : Decoded) → Accepted s d → Rows d (horizon d) (madeStates r) (take (madeLength r) after)
+  pub faithful : madeNumber r ≡ 0 → (d : Decoded) → Accepted s d → Faithful d (horizon d) (take (madeLength r) after)
   -- the bytes of work memory that the constants ask for
-  pub work-bytes :
-      tuplesLength + choicesLength
-      + (2 * cellsLength + 2 * droppedLength + 2 * gainsLength + 2 * bonusesLength + 2 * orderLength + 2 * orderLength)
-      + (8 * valuesLength + 8 * valuesLength)
-      ≤ 65536
+  pub work-bytes : askedBytes guardWork ≤ workMost
+
+-- the maker's: over the sheet's own
+abbrev pub MakesGuard : List ℕ → List ℕ → List ℕ → Made → List ℕ → Type 0
+MakesGuard = MakesOver ownHorizon

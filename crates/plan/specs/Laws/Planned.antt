@@ -7,7 +7,7 @@ use Prim.Native.Nat.{ℕ, _*_, _/_, _%_, _^_, _≤_, _<_}
 use native.Mathlib.Nat.{mul-le-mul}
 use native.Mathlib.Omega.{arith}
 use lib.ListN.{length, getD}
-use Rattle.records.specs.Meaning.Limits.{horizonOk}
+use Rattle.records.specs.Meaning.Limits.{maxStates, maxIns, maxOuts, maxLetters, maxHorizon, horizonOk}
 use Rattle.records.specs.Laws.Limits.{horizon-facts}
 use Rattle.records.specs.Model.Lists.{put}
 use Rattle.records.specs.Laws.Lists.{getD-put-front, length-put}
@@ -19,7 +19,7 @@ use Rattle.product.specs.Meaning.Step.{softReward, weightOf}
 use Rattle.product.specs.Model.Stages.{matchReward}
 use Rattle.product.specs.Model.States.{tupleAt}
 use Rattle.product.specs.Laws.Tuples.{reached-in-range}
-use Rattle.product.specs.Model.ProductNumbering.{stateOf}
+use Rattle.product.specs.Model.ProductNumbering.{stateOf, cellsLength}
 use Rattle.product.specs.Laws.ProductNumbering.{some-state, state-reached}
 use Rattle.rounds.specs.Model.TableRounds.{isIn}
 use Rattle.rounds.specs.Laws.SameRounds.{in-agree}
@@ -36,11 +36,11 @@ use Rattle.values.specs.Model.Values as vals
 use Rattle.values.specs.Model.GuardNumbering.{stepsOf, Following, Numbered}
 use Rattle.values.specs.Laws.GuardNumbering.{entry-met, steps-only}
 use Rattle.values.specs.Laws.Choices.{choices-following}
-use Rattle.plan.specs.Model.GuardOfSheet.{guardOf, guardCount}
+use Rattle.plan.specs.Model.GuardOfSheet.{ownHorizon, guardOf, guardCount}
 use Rattle.plan.specs.Laws.SamePlan.{SameGuard, choicesBy, stored-guard}
 use Rattle.plan.specs.Laws.Solved.{sheet-horizon, few, words-most, layout-literals, stored, sized, code-table}
 use Rattle.guard_rows.specs.Model.Entered.{numbered, tableBy}
-use Rattle.plan.specs.Model.Planned.{Playable, Planned}
+use Rattle.plan.specs.Model.Planned.{choicesLength, Playable, Planned}
 
 -- ---- a layout's numbers
 
@@ -52,6 +52,11 @@ module _ {s : List ℕ} {h : Sheet} (fits : Fits s h) where
   pub horizon-in-bounds : horizonOk (inputLines (decoded s h)) (h .horizon) ≡ true
   unfolding decoded
   horizon-in-bounds = sheet-horizon (decoded s h) (fits .ok .horizon)
+
+-- the layout's horizon is the sheet's own
+pub own-horizon : (s : List ℕ) (h : Sheet) → h .horizon ≡ ownHorizon (decoded s h)
+unfolding decoded
+own-horizon s h = refl
 
 -- a solved sheet whose start is kept can be planned for
 pub playable : {d : Decoded} {n kept : ℕ} {tuples cells dropped : List ℕ} → Solution d n kept true tuples cells dropped
@@ -86,7 +91,7 @@ module _ {s : List ℕ} {sheet : Sheet} (fits : Fits s sheet) {n : ℕ} {tuples 
     outs-are = is-outputs ∙ layout-outputs s sheet
 
     -- how many there are
-    pub counts-low : (1 ≤ ins) × (ins ≤ 16) × (1 ≤ outs) × (outs ≤ 8) × (ins * outs ≤ 64)
+    pub counts-low : (1 ≤ ins) × (ins ≤ maxIns) × (1 ≤ outs) × (outs ≤ maxOuts) × (ins * outs ≤ maxLetters)
     counts-low = (
       omega (arith, lib.Pow.pow-pos (sheet .inputs)),
       omega (arith, ins-are, inputs-most (decoded s sheet) (fits .ok .head)),
@@ -96,20 +101,20 @@ module _ {s : List ℕ} {sheet : Sheet} (fits : Fits s sheet) {n : ℕ} {tuples 
     )
 
     -- the choices have room
-    pub choices-room : n * ins ≤ 4096
+    pub choices-room : n * ins ≤ choicesLength
     choices-room = omega (arith, mul-le-mul (p .solution .numbering .most) (counts-low .1))
 
     -- the words of a horizon in bounds
-    pub plan-words : (h : ℕ) → horizonOk (inputLines (decoded s sheet)) h ≡ true → (h ≤ 24) × (ins ^ h ≤ 2 ^ 24)
+    pub plan-words : (h : ℕ) → horizonOk (inputLines (decoded s sheet)) h ≡ true → (h ≤ maxHorizon) × (ins ^ h ≤ 2 ^ maxHorizon)
     plan-words h far = (horizon-facts _ h far .most, rw ins-are (words-most (decoded s sheet) h far))
 
     module _
         (gains₀ bonuses₀ : List ℕ) {gains bonuses : List ℕ}
         (earned : gains ≡ put gains₀ n (λ k. softReward (weightOf (decoded s sheet)) (decoded s sheet) (tupleAt tuples k)))
         (matched : bonuses ≡ put bonuses₀ (ins * outs) (λ l. matchReward (decoded s sheet) (l % ins) (l / ins)))
-        (gains-room : 256 ≤ length gains₀) (bonuses-room : 64 ≤ length bonuses₀)
+        (gains-room : maxStates ≤ length gains₀) (bonuses-room : maxLetters ≤ length bonuses₀)
       where
-        most : n ≤ 256
+        most : n ≤ maxStates
         most = p .solution .numbering .most
 
         earned-at : (k : ℕ) → k < n
@@ -130,16 +135,16 @@ module _ {s : List ℕ} {sheet : Sheet} (fits : Fits s sheet) {n : ℕ} {tuples 
         game = sizes.gameOf cells dropped gains bonuses ins outs
 
         -- the table has the sizes that working out values relies on
-        pub plan-sized : 16384 ≤ length cells → 256 ≤ length dropped → SizedGame game n
+        pub plan-sized : cellsLength ≤ length cells → maxStates ≤ length dropped → SizedGame game n
         plan-sized wide-cells wide-dropped =
             sized (p .solution) gains bonuses ins outs ins-are outs-are earned-at matched-at (fits .ok) wide-cells wide-dropped
             (rw (earned, length-put) gains-room) (rw (matched, length-put) bonuses-room)
 
-        module _ (wide-cells : 16384 ≤ length cells) (wide-dropped : 256 ≤ length dropped)
+        module _ (wide-cells : cellsLength ≤ length cells) (wide-dropped : maxStates ≤ length dropped)
             (h : ℕ) (far : horizonOk (inputLines (decoded s sheet)) h ≡ true)
             (values₀ choices₀ : List ℕ) {values : List ℕ} {words : ℕ}
             (valued : values ≡ valueRow game n values₀ h) (counted : words ≡ ins ^ h)
-            (values-room : 256 ≤ length values₀) (chosen-room : 4096 ≤ length choices₀)
+            (values-room : maxStates ≤ length values₀) (chosen-room : choicesLength ≤ length choices₀)
           where
             -- values fit
             pub plan-valued : Valued n values words

@@ -11,7 +11,7 @@ use lib.Dec.{eqb}
 use borrow.Author.Tests.{le-leb}
 use lib.ListN.{length, getD}
 use lib.Pow.{pow-pos, pow-mono, pow-add}
-use Rattle.records.specs.Meaning.Limits.{maxStates, horizonOk}
+use Rattle.records.specs.Meaning.Limits.{maxStates, maxLetters, maxHorizon, horizonOk}
 use Rattle.records.specs.Laws.Limits.{horizon-facts}
 use Rattle.records.specs.Laws.Tests.{and-both}
 use Rattle.records.specs.Meaning.Lists.{tab}
@@ -25,7 +25,7 @@ use Rattle.product.specs.Meaning.Step.{inputsOf, outputsOf, softReward, weightO
 use Rattle.product.specs.Model.Stages.{matchReward}
 use Rattle.product.specs.Laws.Rewards.{soft-most, match-most}
 use Rattle.product.specs.Model.States.{lettersOf}
-use Rattle.product.specs.Model.ProductNumbering.{stateCount, stateOf}
+use Rattle.product.specs.Model.ProductNumbering.{stateCount, stateOf, cellsLength}
 use Rattle.game.specs.Model.Numbering.{find}
 use Rattle.rounds.specs.Model.TableRounds.{Steps, isIn}
 use Rattle.solve.specs.Model.Steps.{droppedOf}
@@ -52,9 +52,9 @@ unfolding horizonOk
 sheet-horizon d ok = and-both _ _ (le-leb _ _ (ok .most)) (le-leb _ _ (ok .product-most))
 
 -- the words of a horizon in bounds are at most 2 ^ 24
-pub words-most : (d : Decoded) (h : ℕ) → horizonOk (inputLines d) h ≡ true → inputsOf d ^ h ≤ 2 ^ 24
+pub words-most : (d : Decoded) (h : ℕ) → horizonOk (inputLines d) h ≡ true → inputsOf d ^ h ≤ 2 ^ maxHorizon
 words-most d h far =
-    rw (pow-pow 2 (inputLines d) h) (pow-mono {i = inputLines d * h} {j = 24} (horizon-facts (inputLines d) h far .product-most))
+    rw (pow-pow 2 (inputLines d) h) (pow-mono {i = inputLines d * h} {j = maxHorizon} (horizon-facts (inputLines d) h far .product-most))
 
 -- the literals of a layout's sheet
 pub layout-literals : (s : List ℕ) (h : Sheet) → tab (h .outputs) (λ j. getD (h .literals) j 0) ≡ decoded s h .literals
@@ -97,12 +97,12 @@ module _
             }
 
         -- and of the sizes that working out values relies on
-        pub sized : SheetOk d → 16384 ≤ length cells → maxStates ≤ length dropped → maxStates ≤ length gains → 64 ≤ length bonuses
+        pub sized : SheetOk d → cellsLength ≤ length cells → maxStates ≤ length dropped → maxStates ≤ length gains → maxLetters ≤ length bonuses
             → SizedGame (record { cells = cells; dropped = dropped; gains = gains; bonuses = bonuses; ins = ins; outs = outs }) n
         sized ok wide-cells wide-dropped wide-gains wide-bonuses =
             let most : n ≤ maxStates = solution .numbering .most in
-            let letters : ins * outs ≤ 64 = rw (is-inputs, is-outputs) (letters-most d (ok .head)) in
-            let rows : n * (ins * outs) ≤ 16384 = rw (is-inputs, is-outputs) (cells-most d (ok .head) n most) in
+            let letters : ins * outs ≤ maxLetters = rw (is-inputs, is-outputs) (letters-most d (ok .head)) in
+            let rows : n * (ins * outs) ≤ cellsLength = rw (is-inputs, is-outputs) (cells-most d (ok .head) n most) in
             let steps : Steps cells n ins outs =
             rw (is-inputs, is-outputs)
             (numbering-steps (solution .numbering) (omega (arith, cells-most d (ok .head) n most))) in

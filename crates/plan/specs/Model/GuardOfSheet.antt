@@ -63,10 +63,21 @@ nextOf d h g i =
 unfoldable pub guardOver : Decoded → ℕ → List ℕ
 guardOver d h = guardTable (d .mode) (inputLines d) (d .outputs) h (guardCount d h) (outputOf d h) (nextOf d h)
 
--- the guard table of a sheet: over its own horizon
-unfoldable pub guardTableOf : Decoded → List ℕ
-guardTableOf d = guardOver d (d .horizon)
+-- ---- over a horizon that is found from the sheet: its own, or a shorter one
 
--- how many states it has
+unfoldable pub guardTableBy : (Decoded → ℕ) → Decoded → List ℕ
+guardTableBy horizon d = guardOver d (horizon d)
+
+-- how many states that table has
+abbrev pub statesBy : (Decoded → ℕ) → Decoded → ℕ
+statesBy horizon d = guardCount d (horizon d)
+
+-- the sheet's own horizon
+abbrev pub ownHorizon : Decoded → ℕ
+ownHorizon d = d .horizon
+
+abbrev pub guardTableOf : Decoded → List ℕ
+guardTableOf = guardTableBy ownHorizon
+
 abbrev pub statesOf : Decoded → ℕ
-statesOf d = guardCount d (d .horizon)
+statesOf = statesBy ownHorizon

@@ -3,26 +3,32 @@
 use mathlib.Core.Path.{_≡_}
 use mathlib.Core.Bool.{true}
 use mathlib.Core.List.{List}
-use Prim.Native.Nat.{ℕ, _≤_}
+use Prim.Native.Nat.{ℕ, _*_, _≤_}
 use lib.ListN.{length}
+use Rattle.records.specs.Meaning.Limits.{maxStates, maxIns, maxLetters}
 use Rattle.sheet.specs.Meaning.Decoded.{Decoded, inputLines}
+use Rattle.product.specs.Model.ProductNumbering.{tuplesLength, cellsLength}
 use Rattle.solve.specs.Model.Solve.{Solution}
 use Rattle.values.specs.Model.Values.{Game}
 use Rattle.plan.specs.Model.GuardOfSheet.{guardCount, guardOver}
 use Rattle.guard_rows.specs.Model.Entered.{tableBy, Tabled}
 
+-- an output for each product state and input
+abbrev pub choicesLength : ℕ
+choicesLength = maxStates * maxIns
+
 -- work memory that is long enough for every sheet
 pub record Room (tuples cells dropped gains bonuses values next choices order numbers : List ℕ) : Type 0 where
-  pub tuples-long : 3072 ≤ length tuples
-  pub cells-long : 16384 ≤ length cells
-  pub dropped-long : 256 ≤ length dropped
-  pub gains-long : 256 ≤ length gains
-  pub bonuses-long : 64 ≤ length bonuses
-  pub values-long : 256 ≤ length values
-  pub next-long : 256 ≤ length next
-  pub choices-long : 4096 ≤ length choices
-  pub order-long : 256 ≤ length order
-  pub numbers-long : 256 ≤ length numbers
+  pub tuples-long : tuplesLength ≤ length tuples
+  pub cells-long : cellsLength ≤ length cells
+  pub dropped-long : maxStates ≤ length dropped
+  pub gains-long : maxStates ≤ length gains
+  pub bonuses-long : maxLetters ≤ length bonuses
+  pub values-long : maxStates ≤ length values
+  pub next-long : maxStates ≤ length next
+  pub choices-long : choicesLength ≤ length choices
+  pub order-long : maxStates ≤ length order
+  pub numbers-long : maxStates ≤ length numbers
 
 -- a sheet is solved, and its start is kept
 pub record Playable (d : Decoded) (n : ℕ) (tuples cells dropped : List ℕ) : Type 0 where

@@ -1,7 +1,7 @@
 -- The sizes that the formats share, each said once, and the bounds on lines and horizon (document 01, 'Sheet and tables').
 -- Assumes nothing.
 use mathlib.Core.Bool.{Bool, _&&_, _||_}
-use Prim.Native.Nat.{ℕ, _+_, _*_}
+use Prim.Native.Nat.{ℕ, _+_, _*_, _^_}
 use lib.Dec.{leb, eqb}
 
 -- product states, and so the states of a table
@@ -21,6 +21,16 @@ maxOutputs = 3
 
 abbrev pub maxLines : ℕ
 maxLines = 6
+
+-- so many inputs, outputs and letters they make
+abbrev pub maxIns : ℕ
+maxIns = 2 ^ maxInputs
+
+abbrev pub maxOuts : ℕ
+maxOuts = 2 ^ maxOutputs
+
+abbrev pub maxLetters : ℕ
+maxLetters = 2 ^ maxLines
 
 -- the horizon; inputs × horizon too
 abbrev pub maxHorizon : ℕ

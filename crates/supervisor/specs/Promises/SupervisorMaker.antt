@@ -2,12 +2,11 @@
 -- Assumes nothing.
 use mathlib.Core.Path.{_≡_}
 use mathlib.Core.Logic.{_↔_}
-use mathlib.Core.Bool.{Bool, _&&_}
-use mathlib.Core.List.{List}
+use mathlib.Core.List.{List, []}
 use Prim.Native.Nat.{ℕ, _+_, _*_, _^_, _≤_, _<_}
-use lib.Dec.{leb}
 use lib.ListN.{length, getD, take}
 use Rattle.records.specs.Meaning.Bits.{bitAt}
+use Rattle.records.specs.Meaning.Work.{Slice, longEnough, askedBytes}
 use Rattle.sheet.specs.Meaning.Decoded.{Decoded, inputLines}
 use Rattle.product.specs.Meaning.Step.{inputsOf, advance, firstTuple}
 use Rattle.product.specs.Meaning.States.{ProductStates}
@@ -18,21 +17,13 @@ use Rattle.solve.specs.Meaning.Allowed.{Kept, Lost, Allowed, Accepted, AllowedA
 use Rattle.supervisor.specs.Model.SupervisorOfSheet.{supervisorTable}
 use Rattle.solve.specs.Meaning.Made.{madeNumber, madeLength, madeStates}
 use Rattle.solve.specs.Promises.Making.{Makes}
+use Rattle.solve.specs.Promises.Work.{openingWork, workMost}
 use Rattle.solve.specs.declared.made.Made.{Made}
 
--- ---- work memory: how long each slice must be (docs/MEMORY.md says what it holds)
+-- ---- work memory
 
-abbrev pub tuplesLength : ℕ
-tuplesLength = 3072
-
-abbrev pub cellsLength : ℕ
-cellsLength = 16384
-
-abbrev pub droppedLength : ℕ
-droppedLength = 256
-
-unfoldable pub workOk : ℕ → ℕ → ℕ → Bool
-workOk tuples cells dropped = leb tuplesLength tuples && (leb cellsLength cells && leb droppedLength dropped)
+abbrev pub supervisorWork : List Slice
+supervisorWork = openingWork []
 
 -- ---- demand 2, of a table's bytes
 
@@ -63,10 +54,10 @@ pub record Means (d : Decoded) (n : ℕ) (table : List ℕ) : Type 0 where
   -- the allowed outputs are those of the maximally permissive supervisor
   pub permissive : MaximallyPermissive d
 
--- ---- the promise: `before` and `after` are the result memory, the last three numbers the lengths of the work memory
+-- ---- the promise: `before` and `after` are the result memory, `lent` the lengths of the work memory
 
-pub record MakesSupervisor (s before : List ℕ) (tuples cells dropped : ℕ) (r : Made) (after : List ℕ) : Type 0 where
-  pub makes : Makes supervisorTable stateCount (workOk tuples cells dropped) s before r after
+pub record MakesSupervisor (s before lent : List ℕ) (r : Made) (after : List ℕ) : Type 0 where
+  pub makes : Makes supervisorTable stateCount (longEnough supervisorWork lent) s before r after
   -- of the table of every accepted sheet, also where the result is too short for it
   pub means : (d : Decoded) → Accepted s d → Means d (stateCount d) (supervisorTable d)
   -- which no other bytes mean
@@ -74,4 +65,4 @@ pub record MakesSupervisor (s before : List ℕ) (tuples cells dropped : ℕ) (r
   -- of the bytes that were written
   pub written : madeNumber r ≡ 0 → (d : Decoded) → Accepted s d → Means d (madeStates r) (take (madeLength r) after)
   -- the bytes of work memory that the constants ask for
-  pub work-bytes : tuplesLength + (2 * cellsLength + 2 * droppedLength) ≤ 65536
+  pub work-bytes : askedBytes supervisorWork ≤ workMost

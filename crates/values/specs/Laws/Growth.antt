@@ -8,6 +8,7 @@ use native.Mathlib.Nat.{mul-le-mul, mul-le-mul-right, mul-left-comm, add-mul, su
 use native.Mathlib.Numerals.{add-one}
 use native.Mathlib.Omega.{arith}
 use lib.ListN.{length, getD}
+use Rattle.records.specs.Meaning.Limits.{maxHorizon}
 use Rattle.records.specs.Meaning.Bounded.{sum}
 use Rattle.records.specs.Laws.Bounded.{sum-most, top-le}
 use Rattle.records.specs.Model.Lists.{put}
@@ -94,18 +95,18 @@ module _ (g : Game) (n : ℕ) (memory : List ℕ) where
         omega arith
 
     -- so values fit over every horizon that the sheet's bounds admit
-    pub row-valued : SizedGame g n → (p : ℕ) → p ≤ 24 → g .ins ^ p ≤ 2 ^ 24 → Valued n (valueRow g n memory p) (g .ins ^ p)
+    pub row-valued : SizedGame g n → (p : ℕ) → p ≤ maxHorizon → g .ins ^ p ≤ 2 ^ maxHorizon → Valued n (valueRow g n memory p) (g .ins ^ p)
     row-valued s p steps words =
         record {
           room = rw (length-row p) room;
           most = λ k h. omega (
             arith,
             row-most s p k h,
-            mul-le-mul {n₁ = p * 2295} {m₁ = g .ins ^ p} {n₂ = 24 * 2295} {m₂ = 2 ^ 24} (omega arith) words,
+            mul-le-mul {n₁ = p * 2295} {m₁ = g .ins ^ p} {n₂ = maxHorizon * 2295} {m₂ = 2 ^ maxHorizon} (omega arith) words,
           );
           factor-most = words;
         }
 
 -- words of fewer inputs are fewer
-pub words-mono : (g : Game) {n : ℕ} → SizedGame g n → {p q : ℕ} → p ≤ q → g .ins ^ q ≤ 2 ^ 24 → g .ins ^ p ≤ 2 ^ 24
+pub words-mono : (g : Game) {n : ℕ} → SizedGame g n → {p q : ℕ} → p ≤ q → g .ins ^ q ≤ 2 ^ maxHorizon → g .ins ^ p ≤ 2 ^ maxHorizon
 words-mono g s h most = omega (arith, pow-le-pow-right {n = g .ins} (s .inputs-least) h)

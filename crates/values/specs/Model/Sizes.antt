@@ -3,6 +3,7 @@
 use mathlib.Core.List.{List}
 use Prim.Native.Nat.{ℕ, _+_, _*_, _^_, _≤_, _<_}
 use lib.ListN.{length, getD}
+use Rattle.records.specs.Meaning.Limits.{maxHorizon}
 use Rattle.records.specs.Model.Bounded.{top}
 use Rattle.values.specs.Model.Values.{Game, SizedGame, mayGive, scoreOf}
 
@@ -22,7 +23,7 @@ gameOf cells dropped gains bonuses ins outs =
 pub record Valued (n : ℕ) (values : List ℕ) (factor : ℕ) : Type 0 where
   pub room : n ≤ length values
   pub most : (k : ℕ) → k < n → getD values k 0 ≤ 2 ^ 40
-  pub factor-most : factor ≤ 2 ^ 24
+  pub factor-most : factor ≤ 2 ^ maxHorizon
 
 -- state k of a table of any number of states, with such values for them
 pub record Ready (g : Game) (values : List ℕ) (factor k : ℕ) : Type 0 where
@@ -43,7 +44,7 @@ pub record Scored (gains bonuses values : List ℕ) (factor to letter : ℕ) : T
   pub bonus : getD bonuses letter 0 ≤ 765
   pub values-room : to < length values
   pub value : getD values to 0 ≤ 2 ^ 40
-  pub factor-most : factor ≤ 2 ^ 24
+  pub factor-most : factor ≤ 2 ^ maxHorizon
 
 -- the largest score of state k at input i
 abbrev pub bestOf : Game → List ℕ → ℕ → ℕ → ℕ → ℕ

@@ -7,6 +7,7 @@ use mathlib.Core.Bool.{Bool, false, cond}
 use mathlib.Core.List.{List}
 use Prim.Native.Nat.{ℕ, zero, suc, _+_, _*_, _/_, _%_, _^_, _≤_, _<_}
 use lib.ListN.{length, getD}
+use Rattle.records.specs.Meaning.Limits.{maxStates}
 use Rattle.records.specs.Meaning.Bounded.{sum}
 use Rattle.records.specs.Model.Bounded.{top}
 use Rattle.records.specs.Model.Lists.{put}
@@ -65,7 +66,7 @@ pub record SizedGame (g : Game) (n : ℕ) : Type 0 where
   pub inputs-most : g .ins ≤ 16
   pub outputs-least : 1 ≤ g .outs
   pub outputs-most : g .outs ≤ 8
-  pub states : n ≤ 256
+  pub states : n ≤ maxStates
   pub rows : n * (g .ins * g .outs) ≤ length (g .cells)
   pub inside : (at : ℕ) → at < n * (g .ins * g .outs) → isBroken (getD (g .cells) at 0) ≡ false → getD (g .cells) at 0 < n
   pub dropped : n ≤ length (g .dropped)

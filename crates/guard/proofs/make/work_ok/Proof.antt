@@ -1,48 +1,52 @@
 -- `guard::make::work_ok`: the tests in the definition's order. Assumes nothing.
 use Rattle.records.specs.Laws.Tests.{cases}
-use Rattle.guard.specs.Promises.GuardMaker.{workOk}
+use Rattle.records.specs.Meaning.Work.{longEnough}
 use Rattle.guard.proofs.make.work_ok.Statement.{statement}
 use Rattle.guard.proofs.make.work_ok.Tie as tie
 
 returns : tie.Need-returns
-unfolding workOk
+unfolding longEnough
 returns c = search cases
 
 returns-2 : tie.Need-returns-2
-unfolding workOk
+unfolding longEnough
 returns-2 c = search cases
 
 returns-3 : tie.Need-returns-3
-unfolding workOk
+unfolding longEnough
 returns-3 c = search cases
 
 returns-4 : tie.Need-returns-4
-unfolding workOk
+unfolding longEnough
 returns-4 c = search cases
 
 returns-5 : tie.Need-returns-5
-unfolding workOk
+unfolding longEnough
 returns-5 c = search cases
 
 returns-6 : tie.Need-returns-6
-unfolding workOk
+unfolding longEnough
 returns-6 c = search cases
 
 returns-7 : tie.Need-returns-7
-unfolding workOk
+unfolding longEnough
 returns-7 c = search cases
 
 returns-8 : tie.Need-returns-8
-unfolding workOk
+unfolding longEnough
 returns-8 c = search cases
 
 returns-9 : tie.Need-returns-9
-unfolding workOk
+unfolding longEnough
 returns-9 c = search cases
 
 returns-10 : tie.Need-returns-10
-unfolding workOk
+unfolding longEnough
 returns-10 c = search cases
+
+returns-11 : tie.Need-returns-11
+unfolding longEnough
+returns-11 c = search cases
 
 pub work-ok-spec : {M : Type 1} → statement M
 work-ok-spec =
@@ -57,4 +61,5 @@ work-ok-spec =
     returns-7
     returns-8
     returns-9
-    returns-10)
+    returns-10
+    returns-11)

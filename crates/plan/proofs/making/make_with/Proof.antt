@@ -5,9 +5,9 @@ use native.Mathlib.Omega.{arith}
 use lib.ListN.{length}
 use Rattle.sheet.specs.declared.layout.Verdict.{Verdict}
 use Rattle.guard_rows.specs.Laws.Entered.{count-most}
-use Rattle.plan.specs.Model.GuardOfSheet.{guardTableOf, statesOf}
+use Rattle.plan.specs.Model.GuardOfSheet.{ownHorizon, guardTableOf, statesOf}
 use Rattle.plan.specs.Model.Planned.{Room}
-use Rattle.plan.specs.Laws.Planned.{playable, horizon-in-bounds}
+use Rattle.plan.specs.Laws.Planned.{playable, own-horizon, horizon-in-bounds}
 use Rattle.solve.specs.Laws.Solving.{inputs-low, outputs-low}
 use Rattle.solve.specs.Model.Opening.{Opened, Opens}
 use Rattle.plan.specs.Laws.Answered.{layout-short, layout-written}
@@ -141,7 +141,7 @@ same-length-10 c = planned (c .before) .plan .kept .1 .1 .1 .1 .1 .1 .1 .1 .1 .1
 returns : tie.Need-returns
 returns c = let at = planned (c .before) in
     let r = ready (told (counted at)) in
-    r .answers guardTableOf statesOf (layout-short (r .fits) (playable (r .solution)) (at .plan .ensures) (entry (first at) .args .result .now) (c .before .table-length .ensures) (omega arith))
+    r .answers guardTableOf statesOf (layout-short ownHorizon (r .fits) (playable (r .solution)) (own-horizon _ _) (at .plan .ensures) (entry (first at) .args .result .now) (c .before .table-length .ensures) (omega arith))
 
 write-requires : tie.Need-write-requires
 write-requires c κs = let sized = room c .before in
@@ -196,7 +196,7 @@ same-length-24 c = planned (fit c .before) .plan .kept .1 .1 .1 .1 .1 .1 .1 .1 .
 returns-3 : tie.Need-returns-3
 returns-3 c = let at = planned (fit c .before) in
     let r = ready (told (counted at)) in
-    r .answers guardTableOf statesOf (layout-written (r .fits) (playable (r .solution)) (at .plan .ensures) (entry (first at) .args .result .now) (fit c .before .table-length .ensures) (omega (arith, fit c .if1 .left)) (wrote c .write .ensures))
+    r .answers guardTableOf statesOf (layout-written ownHorizon (r .fits) (playable (r .solution)) (own-horizon _ _) (at .plan .ensures) (entry (first at) .args .result .now) (fit c .before .table-length .ensures) (omega (arith, fit c .if1 .left)) (wrote c .write .ensures))
 
 pub make-with-spec : {M : Type 1} → statement M
 make-with-spec =

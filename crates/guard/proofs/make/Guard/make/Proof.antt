@@ -2,12 +2,13 @@
 use mathlib.Core.Path.{sym, ap, _∙_, subst}
 use mathlib.Core.Bool.{Bool}
 use native.Mathlib.Omega.{arith}
-use lib.ListN.{length}
+use mathlib.Core.List.{List}
+use Prim.Native.Nat.{ℕ}
 use Rattle.records.specs.Meaning.Numbers.{zeros}
 use Rattle.solve.specs.Model.Making.{Answers}
 use Rattle.plan.specs.Model.GuardOfSheet.{guardTableOf, statesOf}
-use Rattle.guard.specs.Promises.GuardMaker.{Work, lent, MakesGuard}
-use Rattle.guard.proofs.Lent.{work-room}
+use Rattle.guard.specs.Promises.GuardMaker.{MakesGuard}
+use Rattle.guard.proofs.Lent.{lengths, work-room}
 use Rattle.guard.proofs.Promise.{guard-promise}
 use Rattle.guard.proofs.make.Guard.make.Statement.{statement}
 use Rattle.guard.proofs.make.Guard.make.Tie as tie
@@ -53,11 +54,11 @@ abbrev entered : tie.After-work-ok → tie.After-shared-slice-known
 entered c = c .before .before .before .before .before .before .before .before .before .before .before .before
 
 -- the work memory's lengths
-abbrev work : tie.Start → Work
+abbrev work : tie.Start → List ℕ
 work c =
     let a = c .args in
-    lent (length (a .tuples .now)) (length (a .cells .now)) (length (a .dropped .now)) (length (a .gains .now)) (length (a .bonuses .now))
-    (length (a .values .now)) (length (a .next .now)) (length (a .choices .now)) (length (a .order .now)) (length (a .numbers .now))
+    lengths (a .tuples .now) (a .cells .now) (a .dropped .now) (a .gains .now) (a .bonuses .now) (a .values .now) (a .next .now)
+    (a .choices .now) (a .order .now) (a .numbers .now)
 
 -- the whole promise
 promise : (c : tie.After-make-with) →

@@ -2,13 +2,16 @@
 use mathlib.Core.Path.{sym, ap, subst, _∙_}
 use mathlib.Core.Bool.{Bool}
 use native.Mathlib.Omega.{arith}
+use mathlib.Core.List.{List, [], _∷_}
+use Prim.Native.Nat.{ℕ}
 use lib.ListN.{length}
 use Rattle.records.specs.Meaning.Numbers.{zeros}
+use Rattle.records.specs.Laws.Work.{Long, long-enough}
 use Rattle.product.specs.Model.ProductNumbering.{stateCount}
 use Rattle.solve.specs.Model.Making.{Answers}
 use Rattle.supervisor.specs.Model.SupervisorOfSheet.{supervisorTable}
-use Rattle.supervisor.specs.Promises.SupervisorMaker.{MakesSupervisor}
-use Rattle.supervisor.proofs.Promise.{work-room, supervisor-promise}
+use Rattle.supervisor.specs.Promises.SupervisorMaker.{supervisorWork, MakesSupervisor}
+use Rattle.supervisor.proofs.Promise.{supervisor-promise}
 use borrow.Author.Needs.{needs}
 use Rattle.supervisor.proofs.make.Supervisor.make.Statement.{statement}
 use Rattle.supervisor.proofs.make.Supervisor.make.Tie as tie
@@ -29,15 +32,17 @@ tested c = c .before .before .before .before .before
 abbrev entered : tie.After-work-ok → tie.After-shared-slice-known
 entered c = c .before .before .before .before .before
 
+-- the work memory's lengths
+abbrev lengths : tie.Start → List ℕ
+lengths c = length (c .args .tuples .now) ∷ length (c .args .cells .now) ∷ length (c .args .dropped .now) ∷ []
+
 -- the whole promise
 promise : (c : tie.After-make-with) →
     let a = entered (tested c) .before .args in
-    MakesSupervisor (a .sheet .now) (a .result .now) (length (a .tuples .now)) (length (a .cells .now)) (length (a .dropped .now))
-    (c .make-with .result) (c .make-with .last .1 .1 .0)
+    MakesSupervisor (a .sheet .now) (a .result .now) (lengths (entered (tested c) .before)) (c .make-with .result) (c .make-with .last .1 .1 .0)
 promise c =
     let a = entered (tested c) .before .args in
-    supervisor-promise (length (a .tuples .now)) (length (a .cells .now)) (length (a .dropped .now))
-    (λ k. omega (arith, entered (tested c) .shared-slice-known .given k))
+    supervisor-promise (lengths (entered (tested c) .before)) (λ k. omega (arith, entered (tested c) .shared-slice-known .given k))
     (subst (λ (b : Bool). Answers supervisorTable stateCount b (a .sheet .now) (a .result .now) (c .make-with .result) (c .make-with .last .1 .1 .0))
     (tested c .work-ok .ensures) (c .make-with .ensures))
 
@@ -45,9 +50,10 @@ work-ok-requires : tie.Need-work-ok-requires
 work-ok-requires c κs = tt
 
 make-with-requires : tie.Need-make-with-requires
+unfolding Long
 make-with-requires c κs = let at = c .before .before .before .before in
-    let a = entered at .before .args in
-    λ e. work-room (length (a .tuples .now)) (length (a .cells .now)) (length (a .dropped .now)) (sym (at .work-ok .ensures) ∙ e)
+    λ e. let long = long-enough supervisorWork (lengths (entered at .before)) (sym (at .work-ok .ensures) ∙ e) in
+    (long .0, (long .1 .0, long .1 .1 .0))
 
 clear8-requires : tie.Need-clear8-requires
 clear8-requires c κs = search needs

@@ -1,2 +1,0 @@
--- Definitions that go the way the code goes.
-pub mod Lent
