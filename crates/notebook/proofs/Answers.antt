@@ -9,42 +9,32 @@ use native.Mathlib.Omega.{arith}
 use lib.Seq.{sets, length-sets, take-append-seam}
 use Rattle.records.specs.Laws.Lists.{sets-front}
 use Rattle.records.specs.Meaning.Numbers.{zeros}
+use Rattle.records.specs.Laws.Work.{exactly, exactly-enough}
 use Rattle.product.specs.Model.ProductNumbering.{stateCount}
 use Rattle.supervisor.specs.Model.SupervisorOfSheet.{supervisorTable}
-use Rattle.supervisor.specs.Promises.SupervisorMaker.{workOk, MakesSupervisor}
+use Rattle.supervisor.specs.Promises.SupervisorMaker.{supervisorWork, MakesSupervisor}
 use Rattle.solve.specs.declared.made.Made.{Made}
 use Rattle.plan.specs.Model.GuardOfSheet.{guardTableOf, statesOf}
-use Rattle.guard.specs.Promises.GuardMaker as guard
-use Rattle.guard.specs.Promises.GuardMaker.{Work, lent, MakesGuard}
+use Rattle.guard.specs.Promises.GuardMaker.{guardWork, MakesGuard}
 use Rattle.notebook.specs.Model.Counters.{sheetBytes, length-sheet, Answered}
 
 -- a new array's length
 pub zeros-length : (n : ℕ) → length (zeros n) ≡ n
 zeros-length n = length-replicate {A = ℕ} n 0
 
-supervisor-work : workOk 3072 16384 256 ≡ true
-unfolding workOk
-supervisor-work = refl
-
-pub supervisor-answered : {s before after : List ℕ} {r : Made} {tuples cells dropped room : ℕ}
-    → MakesSupervisor s before tuples cells dropped r after
-    → tuples ≡ 3072 → cells ≡ 16384 → dropped ≡ 256 → length before ≡ room → Answered supervisorTable stateCount s room r
-supervisor-answered m a b c d =
+pub supervisor-answered : {s before lent after : List ℕ} {r : Made} {room : ℕ} → MakesSupervisor s before lent r after
+    → lent ≡ exactly supervisorWork → length before ≡ room → Answered supervisorTable stateCount s room r
+supervisor-answered m e d =
     record {
-      number = rw (← supervisor-work, ← a, ← b, ← c, ← d) (m .makes .answers .number);
+      number = rw (← exactly-enough supervisorWork, ← e, ← d) (m .makes .answers .number);
       states = m .makes .answers .states;
     }
 
-guard-work : guard.workOk (lent 3072 16384 256 256 64 256 256 4096 256 256) ≡ true
-unfolding guard.workOk
-guard-work = refl
-
-pub guard-answered : {s before after : List ℕ} {r : Made} {w : Work} {room : ℕ}
-    → MakesGuard s before w r after
-    → w ≡ lent 3072 16384 256 256 64 256 256 4096 256 256 → length before ≡ room → Answered guardTableOf statesOf s room r
-guard-answered m a d =
+pub guard-answered : {s before lent after : List ℕ} {r : Made} {room : ℕ} → MakesGuard s before lent r after
+    → lent ≡ exactly guardWork → length before ≡ room → Answered guardTableOf statesOf s room r
+guard-answered m e d =
     record {
-      number = rw (← guard-work, ← a, ← d) (m .makes .answers .number);
+      number = rw (← exactly-enough guardWork, ← e, ← d) (m .makes .answers .number);
       states = m .makes .answers .states;
     }
 

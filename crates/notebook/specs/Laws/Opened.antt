@@ -37,7 +37,7 @@ use Rattle.values.specs.Model.Values as values
 use Rattle.values.specs.Model.Values.{mayGive, earns, scoreOf, worth, valueRow, choiceOf, choices}
 use Rattle.values.specs.Model.GuardStates.{chosen, follows, guardStates, guardNumber}
 use Rattle.plan.specs.Model.GuardOfSheet as guard
-use Rattle.plan.specs.Model.GuardOfSheet.{gainsOf, bonusesOf, sheetGame, valuesOf, choicesOf, guardOf, guardCount, outputOf, guardOver, guardTableOf}
+use Rattle.plan.specs.Model.GuardOfSheet.{gainsOf, bonusesOf, sheetGame, valuesOf, choicesOf, guardOf, guardCount, outputOf, guardOver, guardTableBy}
 use Rattle.board.specs.Meaning.Board.{countsOk, live, emptyBoard, runAt}
 use Rattle.guard_table.specs.Meaning.Loadable as table
 use Rattle.guard_table.specs.Meaning.Loadable.{sizeOk, fieldsOk, entryOk, entriesOk, rowOk, rowsOk, loadable}
@@ -71,7 +71,7 @@ supervisors = tt
 unfoldable pub guards : Unit {0}
 unfolding supervisors scoresOf line equalLines softReward gainsOf matchReward bonusesOf sheetGame before against leader choose literalHolds rankBy rank
     mayGive values.cellNext earns scoreOf worth valueRow valuesOf choiceOf choices choicesOf chosen follows guardStates guardNumber
-    guardOf guardCount outputOf guard.nextOf guardRow guardTable guardOver guardTableOf
+    guardOf guardCount outputOf guard.nextOf guardRow guardTable guardOver guardTableBy
 guards = tt
 
 -- load and step

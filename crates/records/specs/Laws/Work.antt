@@ -5,7 +5,8 @@ use mathlib.Core.Bool.{true}
 use mathlib.Core.List.{List, [], _∷_}
 use Prim.Native.Nat.{ℕ, _≤_}
 use lib.Dec.{leb}
-use borrow.Author.Tests.{leb-true}
+use native.Mathlib.Omega.{arith}
+use borrow.Author.Tests.{leb-true, le-leb}
 use Rattle.records.specs.Meaning.Work.{Slice, longEnough}
 use Rattle.records.specs.Laws.Tests.{both-ways, and-left, and-right}
 
@@ -23,3 +24,13 @@ long-enough (s ∷ work) (n ∷ lent) e = (
   leb-true _ _ (and-left (leb (s .asked) n) (longEnough work lent) e),
   long-enough work lent (and-right (leb (s .asked) n) (longEnough work lent) e),
 )
+
+-- just the lengths that are asked for are enough
+unfoldable pub exactly : List Slice → List ℕ
+exactly [] = []
+exactly (s ∷ work) = s .asked ∷ exactly work
+
+pub exactly-enough : (work : List Slice) → longEnough work (exactly work) ≡ true
+unfolding longEnough exactly
+exactly-enough [] = refl
+exactly-enough (s ∷ work) = rw (le-leb (s .asked) (s .asked) (omega arith)) (exactly-enough work)

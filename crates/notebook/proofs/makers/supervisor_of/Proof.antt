@@ -1,5 +1,6 @@
 -- `notebook::makers::supervisor_of`: the maker's promise, with just the work memory that it asks for. Assumes nothing.
 use mathlib.Core.Path.{sym}
+use Rattle.records.specs.Laws.Work.{exactly}
 use Rattle.notebook.proofs.Answers.{zeros-length, supervisor-answered}
 use Rattle.notebook.proofs.makers.supervisor_of.Statement.{statement}
 use Rattle.notebook.proofs.makers.supervisor_of.Tie as tie
@@ -8,21 +9,21 @@ slice-aggregate-make : tie.Need-slice-aggregate-make
 slice-aggregate-make c = sym (zeros-length 2048)
 
 slice-aggregate-make-2 : tie.Need-slice-aggregate-make-2
-slice-aggregate-make-2 c = sym (zeros-length 3072)
+slice-aggregate-make-2 c = sym (zeros-length _)
 
 slice-aggregate-make-3 : tie.Need-slice-aggregate-make-3
-slice-aggregate-make-3 c = sym (zeros-length 16384)
+slice-aggregate-make-3 c = sym (zeros-length _)
 
 slice-aggregate-make-4 : tie.Need-slice-aggregate-make-4
-slice-aggregate-make-4 c = sym (zeros-length 256)
+slice-aggregate-make-4 c = sym (zeros-length _)
 
 make-requires : tie.Need-make-requires
 make-requires c κs = tt
 
 returns : tie.Need-returns
+unfolding exactly
 returns c =
-    supervisor-answered (c .before .before .before .before .make .ensures .0)
-    (zeros-length 3072) (zeros-length 16384) (zeros-length 256) (zeros-length 2048)
+    supervisor-answered (c .before .before .before .before .make .ensures .0) (simp zeros-length) (zeros-length 2048)
 
 pub supervisor-of-spec : {M : Type 1} → statement M
 supervisor-of-spec =
