@@ -13,6 +13,8 @@ use Rattle.records.specs.Laws.Tests.{by-test}
 use Rattle.records.specs.Meaning.Limits.{maxStates}
 use Rattle.records.specs.Laws.Lists.{sets-front}
 use Rattle.records.specs.Meaning.Numbers.{Bytes}
+use Rattle.records.specs.Meaning.Work.{longEnough}
+use Rattle.records.specs.Laws.Work.{exactly, exactly-enough}
 use Rattle.guard_table.specs.Model.Inside.{tableMost}
 use Rattle.guard_table.specs.Laws.GuardTable.{table-most}
 use Rattle.sheet.specs.Meaning.Decoded.{Decoded, SheetOk, inputLines}
@@ -25,22 +27,23 @@ use Rattle.product.specs.Model.ProductNumbering.{stateCount}
 use Rattle.rounds.specs.Model.TableRounds.{isIn}
 use Rattle.solve.specs.Model.Steps.{droppedOf}
 use Rattle.solve.specs.Model.Making.{sheetOf, manyNumber, lostNumber, roomNumber, tableNumber, makingNumber, Answers}
-use Rattle.supervisor.specs.Promises.SupervisorMaker.{tuplesLength, cellsLength, droppedLength}
+use Rattle.solve.specs.Meaning.Made.{madeNumber, madeLength, madeStates}
+use Rattle.solve.specs.Laws.Judging.{accepted-layout}
+use Rattle.solve.specs.Laws.StateGrounds.{start-in}
 use Rattle.solve.specs.declared.made.Made.{Made}
 use Rattle.solve.specs.declared.made.Made.the-variants.{Table, Refused}
 use Rattle.guard_table.specs.Meaning.Loadable.{loadable}
-use Rattle.plan.specs.Model.GuardOfSheet.{outputOf, nextOf, guardOver, guardTableOf, statesOf}
-use Rattle.guard.specs.Promises.GuardMaker.{gainsLength, bonusesLength, valuesLength, choicesLength, orderLength, Work, workOk, MakesGuard}
-use Rattle.guard.specs.Model.Lent.{Long}
+use Rattle.plan.specs.Model.GuardOfSheet.{guardTableBy, ownHorizon, guardTableOf, statesOf}
+use Rattle.guard.specs.Promises.GuardMaker.{guardWork, MakesGuard}
 use Rattle.plan.specs.Laws.Reaching.{guard-fits}
 use Rattle.plan.specs.Laws.Solved.{sheet-horizon}
 use Rattle.guard.specs.Laws.Running.{table-loads}
 use Rattle.plan.specs.Laws.Answered.{length-guard}
-use Rattle.listing_text.specs.Meaning.Listing.{listing, listingOf, tooLongText}
+use Rattle.listing_text.specs.Meaning.Listing.{listingOf, refusedText, tooLongText}
 use Rattle.report.specs.Promises.Report.{Writes, textLength, outcomeDue, outcomeText, listedLength}
-use Rattle.report.specs.Laws.ListingAnswers.{writes-fits, outcome-most, listing-made}
+use Rattle.report.specs.Laws.ListingAnswers.{writes-fits, outcome-most}
 use Rattle.report.specs.declared.Listed.{Listed}
-use Rattle.listing.specs.Promises.Printed.{sheetMost, sheetGround, guardText, printed, Prints}
+use Rattle.listing.specs.Promises.Printed.{sheetMost, sheetGround, guardText, printed, Prints, Tells, PrintsGuard, PrintsSheet}
 
 -- ---- a sheet that is accepted
 
@@ -62,32 +65,21 @@ unfolding sheetGround
 accepted s e = let r = both (sheetNumber s) (firstNumber (manyNumber (sheetOf s)) (lostNumber (sheetOf s))) e in
     let g = solved (sheetOf s) (r .1) in (r .0, g .0, g .1)
 
-module _ (s : List ℕ) (bytes : Bytes s) (none : sheetNumber s ≡ 0) where
-  ok : SheetOk (sheetOf s)
-  unfolding sheetOf
-  ok = reads s bytes .fits (reads s bytes .number ∙ none) .ok
+in-bounds : (s : List ℕ) → Bytes s → sheetNumber s ≡ 0 → SheetOk (sheetOf s)
+unfolding sheetOf
+in-bounds s bytes none = reads s bytes .fits (reads s bytes .number ∙ none) .ok
 
-  module _ (fits : stateCount (sheetOf s) ≤ maxStates) (start : isIn (droppedOf (sheetOf s)) 0 ≡ true) where
-    -- its table is loadable
-    loads : loadable (guardTableOf (sheetOf s)) ≡ true
-    unfolding guardTableOf
-    loads = let d = sheetOf s in table-loads d fits start (ok .head) (d .horizon) (sheet-horizon d (ok .horizon))
+module _ (d : Decoded) (ok : SheetOk d) (fits : stateCount d ≤ maxStates) (start : isIn (droppedOf d) 0 ≡ true) where
+  -- its table is loadable
+  loads : loadable (guardTableOf d) ≡ true
+  unfolding guardTableBy
+  loads = table-loads d fits start (ok .head) (d .horizon) (sheet-horizon d (ok .horizon))
 
-    -- and fits the result memory
-    short : length (guardTableOf (sheetOf s)) ≤ tableMost
-    short =
-        let d = sheetOf s in
-        let few : statesOf d ≤ maxStates = omega (arith, guard-fits d fits (d .horizon) start) in
-        omega (arith, length-guard d, table-most (inputLines d) (statesOf d) (ok .head .inputs) few)
-
--- ---- the listing of a sheet's guard table is that of the model's entries
-
-pub listing-entries : (d : Decoded)
-    → listingOf (guardTableOf d)
-    ≡ listing (statesOf d) (inputLines d) (d .outputs) (d .horizon) (outputOf d (d .horizon)) (nextOf d (d .horizon))
-unfolding guardTableOf guardOver
-listing-entries d =
-    listing-made (d .mode) (inputLines d) (d .outputs) (d .horizon) (statesOf d) (outputOf d (d .horizon)) (nextOf d (d .horizon))
+  -- and fits the result memory
+  short : length (guardTableOf d) ≤ tableMost
+  short =
+      let few : statesOf d ≤ maxStates = omega (arith, guard-fits d fits (d .horizon) start) in
+      omega (arith, length-guard ownHorizon d, table-most (inputLines d) (statesOf d) (ok .head .inputs) few)
 
 -- ---- the number of the maker's answer
 
@@ -106,7 +98,7 @@ making-as s bytes = go (sheetNumber s) refl
     go : (n : ℕ) → sheetNumber s ≡ n
         → firstNumber n (tableNumber (sheetOf s) (length (guardTableOf (sheetOf s))) tableMost)
         ≡ firstNumber n (firstNumber (manyNumber (sheetOf s)) (lostNumber (sheetOf s)))
-    go zero e = number-as (sheetOf s) (length (guardTableOf (sheetOf s))) tableMost (short s bytes e)
+    go zero e = number-as (sheetOf s) (length (guardTableOf (sheetOf s))) tableMost (short (sheetOf s) (in-bounds s bytes e))
     go (suc n) e = refl
 
 -- ---- what is told of it
@@ -119,24 +111,25 @@ some-ground : (g : Refusal) → eqb (groundNumber g) 0 ≡ false
 some-ground g = ne-eqb (groundNumber g) 0 (λ z. omega (arith, some-number g .1))
 
 -- a text is due, and it is the one that is printed
-pub record Tells (s : List ℕ) (due : Bool) (words : List ℕ) : Type 0 where
+pub record Due (s : List ℕ) (due : Bool) (words : List ℕ) : Type 0 where
   pub due-is : due ≡ true
   pub words-are : words ≡ guardText s
 
 pub outcome-tells : (s : List ℕ) → Bytes s → (before : List ℕ) → length before ≡ tableMost → (r : Made) {after : List ℕ}
-    → Answers guardTableOf statesOf true s before r after → Tells s (outcomeDue r after) (outcomeText r after)
+    → Answers guardTableOf statesOf true s before r after → Due s (outcomeDue r after) (outcomeText r after)
 unfolding outcomeDue outcomeText guardText
 outcome-tells s bytes before size (Table count states) {after} answers =
     let d = sheetOf s in
     let none : sheetGround s ≡ 0 = sym (making-as s bytes) ∙ ap (makingNumber guardTableOf true s) (sym size) ∙ sym (answers .number) in
     let a = accepted s none in
-    let fits : length (guardTableOf d) ≤ length before = omega (arith, short s bytes (a .0) (a .1) (a .2)) in
+    let ok = in-bounds s bytes (a .0) in
+    let fits : length (guardTableOf d) ≤ length before = omega (arith, short d ok (a .1) (a .2)) in
     let table : take count after ≡ guardTableOf d =
     ap₂ take (answers .size) (answers .bytes) ∙ front before (guardTableOf d) fits in
     let inside : count ≤ length after =
     omega (arith, answers .size, ap length (answers .bytes) ∙ length-sets before 0 (guardTableOf d)) in
     record {
-      due-is = rw (le-leb count (length after) inside, table) (loads s bytes (a .0) (a .1) (a .2));
+      due-is = rw (le-leb count (length after) inside, table) (loads d ok (a .1) (a .2));
       words-are = rw (table, none);
     }
 outcome-tells s bytes before size (Refused ground) {after} answers =
@@ -157,40 +150,74 @@ writes-prints {before = before} w e h f g =
       inside = omega (arith, w .inside);
     }
 
--- work memory that is long enough
-work-enough : (w : Work) → Long w → workOk w ≡ true
-unfolding workOk
-work-enough w h =
-    simp (
-      le-leb tuplesLength (w .tuples) (h .tuples),
-      le-leb cellsLength (w .cells) (h .cells),
-      le-leb droppedLength (w .dropped) (h .dropped),
-      le-leb gainsLength (w .gains) (h .gains),
-      le-leb bonusesLength (w .bonuses) (h .bonuses),
-      le-leb valuesLength (w .values) (h .values),
-      le-leb valuesLength (w .next) (h .next),
-      le-leb choicesLength (w .choices) (h .choices),
-      le-leb orderLength (w .order) (h .order),
-      le-leb orderLength (w .numbers) (h .numbers),
-    )
+-- ---- what it means
 
--- what the maker answered, told in enough text memory
-pub outcome-prints : {s before : List ℕ} {w : Work} {made : Made} {after : List ℕ} → MakesGuard s before w made after → Bytes s
-    → length before ≡ tableMost → Long w → {memory : List ℕ} {x : Listed} {now : List ℕ} → textLength ≤ length memory
-    → Writes (outcomeDue made after) (outcomeText made after) memory x now → {r : ℕ} → r ≡ listedLength x
-    → Prints (guardText s) memory r now
-outcome-prints {s} {before} {w} {made} {after} m bytes size long {memory} room writes e =
-    let answers : Answers guardTableOf statesOf true s before made after = rw (work-enough w long) at (m .makes .answers) in
-    let told = outcome-tells s bytes before size made answers in
-    writes-prints writes (told .due-is) (omega (arith, outcome-most made after (told .due-is))) (told .words-are) e
+-- the text of a refusal, and of a table
+refusal-text : (r : Made) (after : List ℕ) (n : ℕ) → 1 ≤ madeNumber r → madeNumber r ≡ n → outcomeText r after ≡ refusedText n
+unfolding outcomeText
+refusal-text (Table size states) after n h e = absurd (omega arith)
+refusal-text (Refused ground) after n h e = ap refusedText e
 
--- by the test of the length
-pub prints-guard : (s : List ℕ) {before : List ℕ} {r : ℕ} {after : List ℕ} → length s ≤ sheetMost → Prints (guardText s) before r after
-    → Prints (printed s) before r after
+table-text : (r : Made) (after : List ℕ) → madeNumber r ≡ 0 → outcomeText r after ≡ listingOf (take (madeLength r) after)
+unfolding outcomeText
+table-text (Table size states) after e = refl
+table-text (Refused ground) after e = absurd (omega (arith, some-number ground .1))
+
+module _ {s before lent : List ℕ} {made : Made} {after : List ℕ} (m : MakesGuard s before lent made after) (bytes : Bytes s)
+    (size : length before ≡ tableMost) (exact : lent ≡ exactly guardWork)
+  where
+    enough : longEnough guardWork lent ≡ true
+    enough = ap (longEnough guardWork) exact ∙ exactly-enough guardWork
+
+    told : Tells s (guardText s)
+    told =
+        record {
+          no-sheet = λ none.
+              says (sheetNumber s) (m .makes .bad-sheet enough .1 none .0) (m .makes .ground enough none);
+          too-many = λ d x many. let e = m .makes .too-many enough d x .1 many in says 7 (omega (arith, e)) e;
+          unrealizable = λ d x few lost. let e = m .makes .unrealizable enough d x few .1 lost in says 8 (omega (arith, e)) e;
+          listed = λ d a.
+              let fits = accepted-layout a in
+              let room = short d (a .sheet .in-bounds) fits (start-in d fits .1 (a .realizable)) in
+              let e = m .makes .exactly .1 (d, a, enough, omega (arith, size, room)) in
+              (madeStates made, take (madeLength made) after, m .written e d a, sym due ∙ table-text made after e);
+        }
+      where
+        due : outcomeText made after ≡ guardText s
+        due =
+            outcome-tells s bytes before size made (rw enough at (m .makes .answers)) .words-are
+
+        says : (n : ℕ) → 1 ≤ madeNumber made → madeNumber made ≡ n → guardText s ≡ refusedText n
+        says n h e = sym due ∙ refusal-text made after n h e
+
+    -- what the maker answered, told in enough text memory
+    pub outcome-prints : {memory : List ℕ} {x : Listed} {now : List ℕ} → textLength ≤ length memory
+        → Writes (outcomeDue made after) (outcomeText made after) memory x now → {r : ℕ} → r ≡ listedLength x
+        → PrintsGuard s memory r now
+    outcome-prints room writes e =
+        let tells = outcome-tells s bytes before size made (rw enough at (m .makes .answers)) in
+        record {
+          prints =
+              writes-prints writes (tells .due-is) (omega (arith, outcome-most made after (tells .due-is))) (tells .words-are) e;
+          tells = told;
+        }
+
+-- ---- by the test of the length
+
+pub prints-guard : (s : List ℕ) {before : List ℕ} {r : ℕ} {after : List ℕ} → length s ≤ sheetMost → PrintsGuard s before r after
+    → PrintsSheet s before r after
 unfolding printed
-prints-guard s h p = rw (le-leb (length s) sheetMost h) p
+prints-guard s h p =
+    let e = le-leb (length s) sheetMost h in
+    record {
+      prints = rw e (p .prints);
+      too-long = λ l. absurd (omega arith);
+      tells = λ _. rw e (p .tells);
+    }
 
 pub prints-long : (s : List ℕ) {before : List ℕ} {r : ℕ} {after : List ℕ} → sheetMost < length s → Prints tooLongText before r after
-    → Prints (printed s) before r after
+    → PrintsSheet s before r after
 unfolding printed
-prints-long s h p = rw (lt-leb (length s) sheetMost h) p
+prints-long s h p =
+    let e = lt-leb (length s) sheetMost h in
+    record { prints = rw e p; too-long = λ _. rw e; tells = λ l. absurd (omega arith) }

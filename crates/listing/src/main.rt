@@ -9,7 +9,7 @@ ghost use mathlib.Core.Path.{_≡_};
 ghost use Prim.Native.Nat.{_≤_};
 ghost use lib.ListN.{length};
 ghost use Rattle.report.specs.Promises.Report.{textLength, listedLength};
-ghost use Rattle.listing.specs.Promises.Printed.{guardText, printed, Prints};
+ghost use Rattle.listing.specs.Promises.Printed.{PrintsSheet, PrintsGuard};
 
 // A sheet is read up to one byte more than it may have.
 fn main() {
@@ -23,7 +23,7 @@ fn main() {
 // What is printed for a sheet, at the start of the text memory; answers its length.
 fn print(sheet: &[u8], text: &mut [u8]) -> usize
     requires { ⌜ textLength ≤ length (now text) ⌝ }
-    ensures { λ r. ⌜ Prints (printed (now (sheet .entry))) (now (text .entry)) r (now (text .exit)) ⌝ }
+    ensures { λ r. ⌜ PrintsSheet (now (sheet .entry)) (now (text .entry)) r (now (text .exit)) ⌝ }
 {
     if 16_384 < sheet.len() {
         return written(Report::too_long(text));
@@ -34,7 +34,7 @@ fn print(sheet: &[u8], text: &mut [u8]) -> usize
 // The listing of a sheet's guard, or the line of its refusal. The result memory holds the longest table.
 fn print_guard(sheet: &[u8], text: &mut [u8]) -> usize
     requires { ⌜ textLength ≤ length (now text) ⌝ }
-    ensures { λ r. ⌜ Prints (guardText (now (sheet .entry))) (now (text .entry)) r (now (text .exit)) ⌝ }
+    ensures { λ r. ⌜ PrintsGuard (now (sheet .entry)) (now (text .entry)) r (now (text .exit)) ⌝ }
 {
     let mut result = [0u8; Layout::MOST];
     let mut tuples = [0u8; Guard::TUPLES];

@@ -1,9 +1,9 @@
 // The maker of supervisor tables.
+use product::tuple::Product;
 use records::clear::clear8;
 use records::clear::clear16;
 use records::limits::Limits;
 use records::numbers::pow2;
-use product::tuple::Product;
 use sheet::layout::Refusal;
 use sheet::layout::Verdict;
 use solve::made::Made;

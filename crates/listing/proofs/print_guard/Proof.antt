@@ -1,6 +1,8 @@
 -- `listing::print_guard`: what the maker answered is told. Assumes nothing.
 use mathlib.Core.Path.{refl}
 use native.Mathlib.Omega.{arith}
+use Rattle.records.specs.Laws.Work.{exactly}
+use Rattle.guard.specs.Promises.GuardMaker.{guardWork}
 use Rattle.listing.proofs.Printing.{outcome-prints}
 use borrow.Author.Needs.{needs}
 use Rattle.listing.proofs.print_guard.Statement.{statement}
@@ -62,22 +64,11 @@ same-length : tie.Need-same-length
 same-length c = search needs
 
 returns : tie.Need-returns
+unfolding exactly
 returns c =
     let told = c .before .before .before in
     let done = made told in
-    outcome-prints (done .make .ensures .0) (λ k. omega (arith, entered done .shared-slice-known .given k)) refl
-    (record {
-      tuples = omega arith;
-      cells = omega arith;
-      dropped = omega arith;
-      gains = omega arith;
-      bonuses = omega arith;
-      values = omega arith;
-      next = omega arith;
-      choices = omega arith;
-      order = omega arith;
-      numbers = omega arith;
-    })
+    outcome-prints {lent = exactly guardWork} (done .make .ensures .0) (λ k. omega (arith, entered done .shared-slice-known .given k)) refl (refl {a = exactly guardWork})
     (omega (arith, entered done .before .pre)) (told .outcome .ensures) (c .written .ensures)
 
 pub print-guard-spec : {M : Type 1} → statement M

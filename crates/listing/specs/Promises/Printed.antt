@@ -3,13 +3,16 @@
 use mathlib.Core.Path.{_≡_}
 use mathlib.Core.Bool.{cond}
 use mathlib.Core.List.{List}
-use Prim.Native.Nat.{ℕ, _≤_}
+use Prim.Native.Nat.{ℕ, _≤_, _<_}
 use lib.Dec.{leb, eqb}
 use lib.ListN.{length}
 use lib.Seq.{sets}
+use Rattle.sheet.specs.Meaning.Decoded.{Decoded}
 use Rattle.sheet.specs.Meaning.Refusals.{sheetNumber, firstNumber}
+use Rattle.solve.specs.Meaning.Allowed.{TooMany, Unrealizable, IsSheet, Accepted}
 use Rattle.solve.specs.Model.Making.{sheetOf, manyNumber, lostNumber}
 use Rattle.plan.specs.Model.GuardOfSheet.{guardTableOf}
+use Rattle.guard.specs.Promises.GuardMaker.{Rows}
 use Rattle.listing_text.specs.Meaning.Listing.{listingOf, refusedText, tooLongText}
 
 -- the most bytes of a sheet
@@ -33,3 +36,24 @@ pub record Prints (words before : List ℕ) (r : ℕ) (after : List ℕ) : Type 
   pub size : r ≡ length words
   pub bytes : after ≡ sets before 0 words
   pub inside : r ≤ length after
+
+-- ---- what the text means, over the sheet whose bytes were given
+
+pub record Tells (s words : List ℕ) : Type 0 where
+  -- the bytes are no sheet's in bounds: the one of 1 to 6 that is due; else 7, else 8
+  pub no-sheet : (((d : Decoded) × IsSheet s d) → ⊥) → words ≡ refusedText (sheetNumber s)
+  pub too-many : (d : Decoded) → IsSheet s d → TooMany d → words ≡ refusedText 7
+  pub unrealizable : (d : Decoded) → IsSheet s d → (TooMany d → ⊥) → Unrealizable d → words ≡ refusedText 8
+  -- the sheet is accepted: the listing of the table that has the rows of its guard, and no other has (`only` of the maker's promise)
+  pub listed : (d : Decoded) → Accepted s d
+      → (n : ℕ) × (table : List ℕ) × Rows d (d .horizon) n table × (words ≡ listingOf table)
+
+-- of a sheet that is not too long, and of any
+pub record PrintsGuard (s before : List ℕ) (r : ℕ) (after : List ℕ) : Type 0 where
+  pub prints : Prints (guardText s) before r after
+  pub tells : Tells s (guardText s)
+
+pub record PrintsSheet (s before : List ℕ) (r : ℕ) (after : List ℕ) : Type 0 where
+  pub prints : Prints (printed s) before r after
+  pub too-long : sheetMost < length s → printed s ≡ tooLongText
+  pub tells : length s ≤ sheetMost → Tells s (printed s)

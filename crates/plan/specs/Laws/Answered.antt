@@ -32,65 +32,65 @@ length-over d h = length-table (d .mode) (inputLines d) (d .outputs) h (guardCou
 -- ---- over a horizon that is found from the sheet
 
 module _ (horizon : Decoded → ℕ) where
-    abbrev table : Decoded → List ℕ
-    table = guardTableBy horizon
+  abbrev table : Decoded → List ℕ
+  table = guardTableBy horizon
 
-    abbrev states : Decoded → ℕ
-    states = statesBy horizon
+  abbrev states : Decoded → ℕ
+  states = statesBy horizon
 
-    -- so is a sheet's
-    pub length-guard : (d : Decoded) → length (table d) ≡ tableLength (inputLines d) (states d)
-    unfolding guardTableBy
-    length-guard d = length-over d (horizon d)
+  -- so is a sheet's
+  pub length-guard : (d : Decoded) → length (table d) ≡ tableLength (inputLines d) (states d)
+  unfolding guardTableBy
+  length-guard d = length-over d (horizon d)
 
-    -- from what solving says
-    module _
-        {d : Decoded} {n kept : ℕ} {begins : Bool} {tuples cells dropped : List ℕ}
-        (solution : Solution d n kept begins tuples cells dropped) (before : List ℕ)
-      where
-        -- the result is too short
-        pub solved-short : begins ≡ true → length before < tableLength (inputLines d) (states d)
-            → Judges table states d before (Refused ground.ShortResult) before
-        solved-short e l =
-            judges-short table states d before (few solution) (sym (solution .start-kept) ∙ e) (omega (arith, length-guard d))
+  -- from what solving says
+  module _
+      {d : Decoded} {n kept : ℕ} {begins : Bool} {tuples cells dropped : List ℕ}
+      (solution : Solution d n kept begins tuples cells dropped) (before : List ℕ)
+    where
+      -- the result is too short
+      pub solved-short : begins ≡ true → length before < tableLength (inputLines d) (states d)
+          → Judges table states d before (Refused ground.ShortResult) before
+      solved-short e l =
+          judges-short table states d before (few solution) (sym (solution .start-kept) ∙ e) (omega (arith, length-guard d))
 
-        -- the table is written
-        pub solved-made : begins ≡ true → tableLength (inputLines d) (states d) ≤ length before
-            → Judges table states d before (Table (tableLength (inputLines d) (states d)) (states d)) (sets before 0 (table d))
-        solved-made e l =
-            rw (← length-guard d)
-            (judges-made table states d before (few solution) (sym (solution .start-kept) ∙ e) (omega (arith, length-guard d)))
+      -- the table is written
+      pub solved-made : begins ≡ true → tableLength (inputLines d) (states d) ≤ length before
+          → Judges table states d before (Table (tableLength (inputLines d) (states d)) (states d)) (sets before 0 (table d))
+      solved-made e l =
+          rw (← length-guard d)
+          (judges-made table states d before (few solution) (sym (solution .start-kept) ∙ e) (omega (arith, length-guard d)))
 
-    -- from what planning leaves
-    module _ {s : List ℕ} {sheet : Sheet} (fits : Fits s sheet) {n : ℕ} {tuples cells dropped : List ℕ}
-        (p : Playable (decoded s sheet) n tuples cells dropped)
-        {h : ℕ} (over : h ≡ horizon (decoded s sheet))
-        {g : Game} {choices order numbers : List ℕ} {count : ℕ}
-        (planned : Planned (decoded s sheet) h g choices order numbers n count)
-        (before : List ℕ) {size : ℕ} (is-size : size ≡ tableLength (sheet .inputs) count)
-      where
-        states-are : count ≡ states (decoded s sheet)
-        states-are = planned .counted ∙ ap (guardCount (decoded s sheet)) over
+  -- from what planning leaves
+  module _ {s : List ℕ} {sheet : Sheet} (fits : Fits s sheet) {n : ℕ} {tuples cells dropped : List ℕ}
+      (p : Playable (decoded s sheet) n tuples cells dropped)
+      {h : ℕ} (over : h ≡ horizon (decoded s sheet))
+      {g : Game} {choices order numbers : List ℕ} {count : ℕ}
+      (planned : Planned (decoded s sheet) h g choices order numbers n count)
+      (before : List ℕ) {size : ℕ} (is-size : size ≡ tableLength (sheet .inputs) count)
+    where
+      states-are : count ≡ states (decoded s sheet)
+      states-are = planned .counted ∙ ap (guardCount (decoded s sheet)) over
 
-        size-is : size ≡ tableLength (inputLines (decoded s sheet)) (states (decoded s sheet))
-        size-is = is-size ∙ ap₂ tableLength (lines-are fits) states-are
+      size-is : size ≡ tableLength (inputLines (decoded s sheet)) (states (decoded s sheet))
+      size-is = is-size ∙ ap₂ tableLength (lines-are fits) states-are
 
-        -- the table does not fit into the result
-        pub layout-short : length before < size → Judges table states (decoded s sheet) before (Refused ground.ShortResult) before
-        layout-short l = solved-short (p .solution) before refl (omega (arith, size-is))
+      -- the table does not fit into the result
+      pub layout-short : length before < size → Judges table states (decoded s sheet) before (Refused ground.ShortResult) before
+      layout-short l = solved-short (p .solution) before refl (omega (arith, size-is))
 
-        -- the table of these entries is the sheet's
-        table-is : tableBy (sheet .mode) (sheet .inputs) (sheet .outputs) h count g choices order numbers ≡ table (decoded s sheet)
-        unfolding decoded guardTableBy
-        table-is =
-            ap (λ (x : ℕ). tableBy (sheet .mode) x (sheet .outputs) h count g choices order numbers) (fits .inputs)
-            ∙ planned .table
-            ∙ ap (guardOver (decoded s sheet)) over
+      -- the table of these entries is the sheet's
+      table-is : tableBy (sheet .mode) (sheet .inputs) (sheet .outputs) h count g choices order numbers ≡ table (decoded s sheet)
+      unfolding decoded guardTableBy
+      table-is =
+          ap (λ (x : ℕ). tableBy (sheet .mode) x (sheet .outputs) h count g choices order numbers) (fits .inputs)
+          ∙ planned .table
+          ∙ ap (guardOver (decoded s sheet)) over
 
-        -- or it does, and is written
-        pub layout-written : size ≤ length before → {after : List ℕ}
-            → after ≡ sets before 0 (tableBy (sheet .mode) (sheet .inputs) (sheet .outputs) h count g choices order numbers)
-            → Judges table states (decoded s sheet) before (Table size count) after
-        layout-written l {after} wrote =
-            let bytes : after ≡ sets before 0 (table (decoded s sheet)) = wrote ∙ ap (λ (t : List ℕ). sets before 0 t) table-is in
-            rw (bytes, size-is, states-are) (solved-made (p .solution) before refl (omega (arith, size-is)))
+      -- or it does, and is written
+      pub layout-written : size ≤ length before → {after : List ℕ}
+          → after ≡ sets before 0 (tableBy (sheet .mode) (sheet .inputs) (sheet .outputs) h count g choices order numbers)
+          → Judges table states (decoded s sheet) before (Table size count) after
+      layout-written l {after} wrote =
+          let bytes : after ≡ sets before 0 (table (decoded s sheet)) = wrote ∙ ap (λ (t : List ℕ). sets before 0 t) table-is in
+          rw (bytes, size-is, states-are) (solved-made (p .solution) before refl (omega (arith, size-is)))
