@@ -20,9 +20,7 @@ pub enum Listed {
 }
 
 // The writers of text. Each knows the length of its text before it writes any.
-pub struct Report {
-    pub listed: Listed,
-}
+pub struct Report {}
 
 impl Report {
     // No text is longer.

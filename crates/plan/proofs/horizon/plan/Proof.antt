@@ -18,26 +18,26 @@ start c = c .before .before .before .before .before .before .before .before .bef
 abbrev earned : tie.After-fill-bonuses-arg → tie.After-fill-gains
 earned c = c .before .before .before
 
-abbrev matched : tie.After-value-rows-arg → tie.After-fill-bonuses
-matched c = c .before .before .before
+abbrev matched : tie.After-value-rows-arg4 → tie.After-fill-bonuses
+matched c = c .before .before .before .before .before .before
 
 abbrev entry : tie.After-fill-bonuses → tie.Start
 entry c = start (earned (c .before) .before)
 
-abbrev valued : tie.After-fill-choices-arg → tie.After-value-rows
-valued c = c .before .before .before .before .before .before .before
+abbrev valued : tie.After-fill-choices-arg4 → tie.After-value-rows
+valued c = c .before .before .before .before .before .before .before .before .before .before
 
-abbrev chose : tie.After-guard-states-arg → tie.After-fill-choices
-chose c = c .before .before .before
+abbrev chose : tie.After-guard-states-arg3 → tie.After-fill-choices
+chose c = c .before .before .before .before .before
 
 abbrev made : tie.After-value-rows → tie.After-fill-bonuses
-made c = matched (c .before .before .before .before)
+made c = matched (c .before)
 
 abbrev done : tie.After-slice-known14 → tie.After-guard-states
 done c = c .before .before .before .before
 
-abbrev chosen-by : tie.After-slice-known14 → tie.After-fill-choices-arg
-chosen-by c = chose (done c .before .before .before) .before .before .before .before
+abbrev chosen : tie.After-slice-known14 → tie.After-fill-choices
+chosen c = chose (done c .before)
 
 -- the table has the sizes that working out values relies on
 sized : (c : tie.After-fill-bonuses) → let a = entry c .args in
@@ -58,7 +58,7 @@ fill-bonuses-requires c κs = let s = start (earned c .before) in
     ((s .args .s .now, s .pre .0), (counts .0, omega (arith, counts .4, s .pre .1 .1 .1 .bonuses-long)))
 
 value-rows-requires : tie.Need-value-rows-requires
-value-rows-requires c κs = let at = matched (c .before .before .before) in
+value-rows-requires c κs = let at = matched c in
     let s = entry at in
     let most = s .pre .1 .0 .solution .numbering .most in
     let long = s .pre .1 .1 .1 in (
@@ -73,7 +73,7 @@ cast-count : tie.Need-cast-count
 cast-count c = search needs
 
 fill-choices-requires : tie.Need-fill-choices-requires
-fill-choices-requires c κs = let at = valued (c .before .before .before) in
+fill-choices-requires c κs = let at = valued c in
     let s = entry (made at) in
     let long = s .pre .1 .1 .1 in (
       sized (made at),
@@ -90,8 +90,8 @@ fill-choices-requires c κs = let at = valued (c .before .before .before) in
     )
 
 guard-states-requires : tie.Need-guard-states-requires
-guard-states-requires c κs = let at = chose (c .before .before) in
-    let was = valued (at .before .before .before .before) in
+guard-states-requires c κs = let at = chose c in
+    let was = valued (at .before) in
     let s = entry (made was) in
     let long = s .pre .1 .1 .1 in
     let most = s .pre .1 .0 .solution .numbering .most in (
@@ -104,19 +104,19 @@ guard-states-requires c κs = let at = chose (c .before .before) in
     )
 
 same-length : tie.Need-same-length
-same-length c = earned (made (valued (chosen-by c)) .before) .fill-gains .kept .1 .1 .1 .0
+same-length c = earned (made (valued (chosen c .before)) .before) .fill-gains .kept .1 .1 .1 .0
 
 same-length-2 : tie.Need-same-length-2
-same-length-2 c = made (valued (chosen-by c)) .fill-bonuses .kept .1 .0
+same-length-2 c = made (valued (chosen c .before)) .fill-bonuses .kept .1 .0
 
 same-length-3 : tie.Need-same-length-3
-same-length-3 c = valued (chosen-by c) .value-rows .kept .1 .1 .1 .1 .1 .1 .1 .0
+same-length-3 c = valued (chosen c .before) .value-rows .kept .1 .1 .1 .1 .1 .1 .1 .0
 
 same-length-4 : tie.Need-same-length-4
-same-length-4 c = valued (chosen-by c) .value-rows .kept .1 .1 .1 .1 .1 .1 .1 .1 .0
+same-length-4 c = valued (chosen c .before) .value-rows .kept .1 .1 .1 .1 .1 .1 .1 .1 .0
 
 same-length-5 : tie.Need-same-length-5
-same-length-5 c = chose (done c .before .before .before) .fill-choices .kept .1 .1 .1 .1 .1 .1 .1 .1 .1 .1 .1 .0
+same-length-5 c = chosen c .fill-choices .kept .1 .1 .1 .1 .1 .1 .1 .1 .1 .1 .1 .0
 
 same-length-6 : tie.Need-same-length-6
 same-length-6 c = done c .guard-states .kept .1 .1 .1 .1 .1 .0
@@ -125,8 +125,8 @@ same-length-7 : tie.Need-same-length-7
 same-length-7 c = done c .guard-states .kept .1 .1 .1 .1 .1 .1 .0
 
 returns : tie.Need-returns
-returns c = let at = chose (done c .before .before .before) in
-    let was = valued (at .before .before .before .before) in
+returns c = let at = chosen c in
+    let was = valued (at .before) in
     let s = entry (made was) in
     let long = s .pre .1 .1 .1 in
     let most = s .pre .1 .0 .solution .numbering .most in

@@ -16,8 +16,11 @@ use Rattle.plan.proofs.making.make_with.Statement.{statement}
 use Rattle.plan.proofs.making.make_with.Tie as tie
 
 -- the places that the needs look back to
+abbrev asked : tie.After-open-sheet-arg3 → tie.Start
+asked c = c .before .before .before .before .before .before .before .before .before .before .before .before .before .before .before
+
 abbrev entry : tie.After-open-sheet → tie.Start
-entry c = c .before .before .before .before .before .before .before .before .before .before .before .before .before .before .before .before
+entry c = asked (c .before)
 
 abbrev judged : tie.After-enum-told → tie.After-open-sheet
 judged c = c .before .before .before .before .before .before .before .before
@@ -25,11 +28,17 @@ judged c = c .before .before .before .before .before .before .before .before
 abbrev told : tie.After-pow22 → tie.After-enum-told
 told c = c .before .before .before
 
+abbrev called : tie.After-plan-arg10 → tie.After-pow22
+called c = c .before .before .before .before .before .before .before .before .before .before
+
 abbrev counted : tie.After-plan → tie.After-pow22
-counted c = c .before .before .before .before .before .before .before .before .before .before .before
+counted c = called (c .before)
+
+abbrev left : tie.After-slice-known21 → tie.After-plan
+left c = c .before .before .before .before .before .before .before .before .before .before .before .before .before .before
 
 abbrev planned : tie.After-table-length → tie.After-plan
-planned c = c .before .before .before .before .before .before .before .before .before .before .before .before .before .before .before
+planned c = left (c .before)
 
 abbrev refused : tie.After-known-told → tie.After-open-sheet
 refused c = c .before .before .before .before .before .before .before .before .before
@@ -84,7 +93,7 @@ long c =
     }
 
 open-sheet-requires : tie.Need-open-sheet-requires
-open-sheet-requires c κs = λ e. let w = c .before .before .before .before .before .before .before .before .before .before .before .before .before .before .before .pre e in (w .tuples-long, (w .cells-long, w .dropped-long))
+open-sheet-requires c κs = λ e. let w = asked c .pre e in (w .tuples-long, (w .cells-long, w .dropped-long))
 
 enum-known-verdict : tie.Need-enum-known-verdict
 enum-known-verdict c = search needs
@@ -99,12 +108,12 @@ pow2-requires-2 : tie.Need-pow2-requires-2
 pow2-requires-2 c κs = omega (arith, outputs-low (ready (c .before .before) .fits))
 
 plan-requires : tie.Need-plan-requires
-plan-requires c κs = let at = c .before .before .before .before .before .before .before .before .before .before in
+plan-requires c κs = let at = called c in
     let r = ready (told at) in
     (r .fits, (playable (r .solution), ((at .before .pow2 .ensures, (at .pow22 .ensures, horizon-in-bounds (r .fits))), long (told at))))
 
 table-length-requires : tie.Need-table-length-requires
-table-length-requires c κs = let at = c .before .before .before .before .before .before .before .before .before .before .before .before .before .before in
+table-length-requires c κs = let at = left c in
     let t = at .plan .ensures .tabled in
     (inputs-low (ready (told (counted at)) .fits), omega (arith, count-most t, t .following .states))
 

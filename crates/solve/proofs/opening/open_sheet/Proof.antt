@@ -21,8 +21,14 @@ read c = c .before .before
 abbrev long : tie.After-enum-told → tie.Else1
 long c = c .before .before
 
+abbrev asked : tie.After-solve-arg3 → tie.After-enum-told
+asked c = c .before .before .before
+
 abbrev accepted : tie.After-solve → tie.After-enum-told
-accepted c = c .before .before .before .before
+accepted c = asked (c .before)
+
+abbrev told : tie.After-refused2 → tie.Else1
+told c = c .before .before .before .before
 
 abbrev many : tie.After-enum-told2 → tie.After-solve
 many c = c .before .before .before .before .before .before .before .before
@@ -71,7 +77,7 @@ enum-told : tie.Need-enum-told
 enum-told c = search needs
 
 solve-requires : tie.Need-solve-requires
-solve-requires c κs = let at = c .before .before .before in
+solve-requires c κs = let at = asked c in
     (fits at, start (read (long at)) .pre (is-long (long at)))
 
 enum-told-2 : tie.Need-enum-told-2
@@ -104,7 +110,7 @@ returns-2 c =
 
 returns-3 : tie.Need-returns-3
 returns-3 c =
-    let at = c .before .before .before .before in
+    let at = told c in
     simp (c .refused2 .ensures) (opens-refused (is-long at) (read at .read .ensures) _ (c .before .before .verdict .given .1))
 
 same-length-4 : tie.Need-same-length-4

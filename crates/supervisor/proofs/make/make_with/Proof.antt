@@ -31,8 +31,14 @@ refused c = c .before .before .before .before .before .before .before .before .b
 abbrev room : tie.After-put-head → tie.Else1
 room c = c .before .before
 
+abbrev sized : tie.Else1 → tie.After-enum-told
+sized c = told (c .before .before)
+
+abbrev begun : tie.After-put-rows-arg3 → tie.After-put-head
+begun c = c .before .before .before .before .before
+
 abbrev headed : tie.After-pow22 → tie.After-put-head
-headed c = c .before .before .before .before .before .before
+headed c = begun (c .before)
 
 -- what the opening says of a verdict
 abbrev Says : tie.After-open-sheet → Verdict → Type 0
@@ -91,7 +97,7 @@ returns c = let size = c .before in
     (size .table-length .ensures) (omega arith))
 
 cast-put-head : tie.Need-cast-put-head
-cast-put-head c = omega (arith, ready (told (c .before .before .before)) .solution .numbering .most)
+cast-put-head c = omega (arith, ready (sized (c .before)) .solution .numbering .most)
 
 put-head-requires : tie.Need-put-head-requires
 unfolding maskTableLength
@@ -99,14 +105,14 @@ put-head-requires c κs = omega (arith, c .before .before .table-length .ensures
 
 pow2-requires-2 : tie.Need-pow2-requires-2
 pow2-requires-2 c κs =
-    let at = room (c .before .before .before .before .before) in omega (arith, outputs-low (ready (told (at .before .before)) .fits))
+    let at = room (begun c) in omega (arith, outputs-low (ready (sized at) .fits))
 
 put-rows-requires : tie.Need-put-rows-requires
 put-rows-requires c κs =
     let at = room (headed c) in
-    let r = ready (told (at .before .before)) in
+    let r = ready (sized at) in
     let numbering = r .solution .numbering in
-    let long = rooms (told (at .before .before)) in
+    let long = rooms (sized at) in
     let ins = at .before .before .pow2 .ensures in
     let outs = c .pow22 .ensures in (
       layout-steps (r .fits) numbering _ _ ins outs (long .0),
@@ -144,9 +150,9 @@ same-length-10 c = search needs
 returns-3 : tie.Need-returns-3
 returns-3 c = let wrote = c .before .before in
     let at = room (headed (wrote .before)) in
-    let r = ready (told (at .before .before)) in
+    let r = ready (sized at) in
     r .answers supervisorTable stateCount
-    (layout-written (r .fits) (r .solution) (entry (opened (told (at .before .before))) .args .result .now) _ (at .before .before .pow2 .ensures) refl
+    (layout-written (r .fits) (r .solution) (entry (opened (sized at)) .args .result .now) _ (at .before .before .pow2 .ensures) refl
     (at .before .table-length .ensures) (omega arith) _ (wrote .before .pow22 .ensures) (headed (wrote .before) .put-head .ensures) (wrote .put-rows .ensures))
 
 pub make-with-spec : {M : Type 1} → statement M

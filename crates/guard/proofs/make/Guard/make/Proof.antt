@@ -47,8 +47,11 @@ tuples c = cells c .before .before .before .before
 abbrev made : tie.After-slice-known32 → tie.After-make-with
 made c = tuples c .before .before .before .before .before .before .before .before .before .before .before .before .before .before .before .before .before .before .before .before .before .before .before .before
 
+abbrev asked : tie.After-make-with-arg11 → tie.After-work-ok
+asked c = c .before .before .before .before .before .before .before .before .before .before .before
+
 abbrev tested : tie.After-make-with → tie.After-work-ok
-tested c = c .before .before .before .before .before .before .before .before .before .before .before .before
+tested c = asked (c .before)
 
 abbrev entered : tie.After-work-ok → tie.After-shared-slice-known
 entered c = c .before .before .before .before .before .before .before .before .before .before .before .before
@@ -74,7 +77,7 @@ work-ok-requires : tie.Need-work-ok-requires
 work-ok-requires c κs = tt
 
 make-with-requires : tie.Need-make-with-requires
-make-with-requires c κs = let at = c .before .before .before .before .before .before .before .before .before .before .before in
+make-with-requires c κs = let at = asked c in
     let a = entered at .before .args in
     λ e. work-room (a .tuples .now) (a .cells .now) (a .dropped .now) (a .gains .now) (a .bonuses .now) (a .values .now) (a .next .now) (a .choices .now) (a .order .now) (a .numbers .now) (sym (at .work-ok .ensures) ∙ e)
 

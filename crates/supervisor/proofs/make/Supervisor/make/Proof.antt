@@ -26,8 +26,11 @@ cleared-tuples c = c .before .before .before .before
 abbrev made : tie.After-clear8 → tie.After-make-with
 made c = c .before .before .before .before .before .before .before .before .before .before
 
+abbrev asked : tie.After-make-with-arg4 → tie.After-work-ok
+asked c = c .before .before .before .before
+
 abbrev tested : tie.After-make-with → tie.After-work-ok
-tested c = c .before .before .before .before .before
+tested c = asked (c .before)
 
 abbrev entered : tie.After-work-ok → tie.After-shared-slice-known
 entered c = c .before .before .before .before .before
@@ -51,7 +54,7 @@ work-ok-requires c κs = tt
 
 make-with-requires : tie.Need-make-with-requires
 unfolding Long
-make-with-requires c κs = let at = c .before .before .before .before in
+make-with-requires c κs = let at = asked c in
     λ e. let long = long-enough supervisorWork (lengths (entered at .before)) (sym (at .work-ok .ensures) ∙ e) in
     (long .0, (long .1 .0, long .1 .1 .0))
 
