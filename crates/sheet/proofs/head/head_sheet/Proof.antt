@@ -4,8 +4,12 @@ use Rattle.sheet.specs.Model.HeadRecord.{headSheet}
 use Rattle.sheet.proofs.head.head_sheet.Statement.{statement}
 use Rattle.sheet.proofs.head.head_sheet.Tie as tie
 
+-- the places that the needs look back to
 abbrev numbered : tie.After-literal-at3 → tie.After-guard-lines
 numbered c = c .before .before .before .before .before
+
+abbrev begun : tie.After-guard-lines → tie.After-none
+begun c = c .before .before .before .before .before
 
 add-outputs : tie.Need-add-outputs
 add-outputs c = search needs
@@ -60,7 +64,14 @@ literal-at-requires-3 c κs = search needs
 
 returns : tie.Need-returns
 unfolding headSheet
-returns c = simp (c .literal-at3 .ensures, c .before .literal-at2 .ensures, c .before .before .literal-at .ensures, numbered c .guard-lines .ensures, numbered c .before .before .before .before .before .none .ensures)
+returns c = let n = numbered c in
+    simp (
+      c .literal-at3 .ensures,
+      c .before .literal-at2 .ensures,
+      c .before .before .literal-at .ensures,
+      n .guard-lines .ensures,
+      begun n .none .ensures,
+    )
 
 pub head-sheet-spec : {M : Type 1} → statement M
 head-sheet-spec =

@@ -7,6 +7,10 @@ use Rattle.sheet.specs.Model.MonitorRecord.{monitorAt}
 use Rattle.sheet.proofs.monitor.monitor_at.Statement.{statement}
 use Rattle.sheet.proofs.monitor.monitor_at.Tie as tie
 
+-- the place that the needs look back to
+abbrev entry : tie.After-shared-slice-known4 → tie.Start
+entry c = c .before .before .before .before
+
 add-states : tie.Need-add-states
 add-states c = search needs
 
@@ -35,10 +39,10 @@ add-t14 : tie.Need-add-t14
 add-t14 c = search needs
 
 cast-t15 : tie.Need-cast-t15
-cast-t15 c = let at = c .before .before .before .before .args .start in omega (arith, c .shared-slice-known4 .given (at + 2))
+cast-t15 c = omega (arith, c .shared-slice-known4 .given (entry c .args .start + 2))
 
 add-t16 : tie.Need-add-t16
-add-t16 c = let at = c .before .before .before .before .args .start in omega (arith, c .shared-slice-known4 .given (at + 2))
+add-t16 c = omega (arith, c .shared-slice-known4 .given (entry c .args .start + 2))
 
 returns : tie.Need-returns
 unfolding monitorAt

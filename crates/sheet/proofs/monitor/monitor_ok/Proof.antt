@@ -2,19 +2,21 @@
 -- Assumes nothing.
 use mathlib.Core.Path.{_≡_}
 use mathlib.Core.Bool.{true}
-use Prim.Native.Nat.{_+_}
+use mathlib.Core.List.{List}
+use Prim.Native.Nat.{ℕ}
 use native.Mathlib.Omega.{arith}
 use borrow.Author.Tests.{le-leb}
 use borrow.Author.Needs.{needs}
 use denote.Ref.{now}
 use lib.Dec.{leb}
-use lib.ListN.{getD}
 use Rattle.records.specs.Laws.Tests.{cases, said-no, said-yes}
-use Rattle.sheet_fields.specs.Meaning.Monitor.{roleOk, bytesMost, monitorOk}
+use Rattle.sheet_fields.specs.Meaning.Places.{roleAt, weightAt, statesAt, firstAt, acceptFrom}
+use Rattle.sheet_fields.specs.Meaning.Monitor.{roleOk, statesOk, bytesMost, monitorOk}
 use Rattle.sheet_fields.specs.Laws.FieldFacts.{States, states-facts}
 use Rattle.sheet.proofs.monitor.monitor_ok.Statement.{statement}
 use Rattle.sheet.proofs.monitor.monitor_ok.Tie as tie
 
+-- the places that the needs look back to
 abbrev lettered : tie.After-states-ok → tie.After-letters-read
 lettered c = c .before .before .before
 
@@ -24,27 +26,39 @@ roled c = lettered c .before .before
 abbrev entry : tie.After-states-ok → tie.Start
 entry c = roled c .before .before .before .before .before .before
 
+abbrev stated : tie.After-bytes-most → tie.After-states-ok
+stated c = c .before .before
+
+abbrev accepted : tie.Else4 → tie.Else3
+accepted c = c .before .before
+
+-- the bytes and where the monitor's begin
+abbrev bytes : tie.After-states-ok → List ℕ
+bytes c = now (entry c .args .s)
+
+abbrev from : tie.After-states-ok → ℕ
+from c = entry c .args .start
+
 -- the tests passed before the numbers'
 sized : (c : tie.After-states-ok) → leb 4 (entry c .args .size) ≡ true
 sized c = le-leb 4 (entry c .args .size) (omega arith)
 
 role : (c : tie.After-states-ok)
-    → roleOk (entry c .args .sheet .mode) (getD (now (entry c .args .s)) (entry c .args .start) 0)
-    (getD (now (entry c .args .s)) (entry c .args .start + 1) 0) ≡ true
+    → roleOk (entry c .args .sheet .mode) (roleAt (bytes c) (from c)) (weightAt (bytes c) (from c)) ≡ true
 role c = said-yes (roled c .before .role-ok .ensures) (roled c .if2 .left)
 
--- what the numbers' test tells where it was passed
-known : (c : tie.Else3)
-    → States (getD (now (entry (c .before) .args .s)) (entry (c .before) .args .start + 2) 0)
-    (getD (now (entry (c .before) .args .s)) (entry (c .before) .args .start + 3) 0)
-    (lettered (c .before) .letters-read .result) (entry (c .before) .args .size)
-known c = states-facts _ _ _ _ (said-yes (c .before .states-ok .ensures) (c .if3 .left))
+-- the numbers' test where it was passed, and what it tells
+numbers : (c : tie.Else3) → let t = c .before in
+    statesOk (statesAt (bytes t) (from t)) (firstAt (bytes t) (from t)) (lettered t .letters-read .result) (entry t .args .size) ≡ true
+numbers c = said-yes (c .before .states-ok .ensures) (c .if3 .left)
+
+known : (c : tie.Else3) → let t = c .before in
+    States (statesAt (bytes t) (from t)) (firstAt (bytes t) (from t)) (lettered t .letters-read .result) (entry t .args .size)
+known c = states-facts _ _ _ _ (numbers c)
 
 -- each accept byte is held to 1
-accepts : (c : tie.After-bytes-most)
-    → c .bytes-most .result
-    ≡ bytesMost (now (entry (c .before .before) .args .s)) (entry (c .before .before) .args .start + 4)
-    (getD (now (entry (c .before .before) .args .s)) (entry (c .before .before) .args .start + 2) 0) 1
+accepts : (c : tie.After-bytes-most) → let t = stated c in
+    c .bytes-most .result ≡ bytesMost (bytes t) (acceptFrom (from t)) (statesAt (bytes t) (from t)) 1
 accepts c = c .bytes-most .ensures
 
 returns : tie.Need-returns
@@ -104,12 +118,12 @@ bytes-most-requires c κs = let h = known c in omega arith
 
 returns-4 : tie.Need-returns-4
 unfolding monitorOk
-returns-4 c = let t = c .before .before .before in
+returns-4 c = let t = stated (c .before) in
     simp (
       sized t,
       role t,
       ← lettered t .letters-read .ensures .0,
-      said-yes (t .states-ok .ensures) (c .before .before .if3 .left),
+      numbers (c .before .before),
       said-no (accepts (c .before)) (c .if4 .taken),
     )
 
@@ -117,26 +131,27 @@ add-bytes-most-2 : tie.Need-add-bytes-most-2
 add-bytes-most-2 c = search needs
 
 add-bytes-most-3 : tie.Need-add-bytes-most-3
-add-bytes-most-3 c = let h = known (c .before .before) in omega arith
+add-bytes-most-3 c = let h = known (accepted c) in omega arith
 
 mul-bytes-most : tie.Need-mul-bytes-most
-mul-bytes-most c = let h = known (c .before .before) in omega arith
+mul-bytes-most c = let h = known (accepted c) in omega arith
 
 sub-bytes-most : tie.Need-sub-bytes-most
-sub-bytes-most c = let h = known (c .before .before) in omega arith
+sub-bytes-most c = let h = known (accepted c) in omega arith
 
 bytes-most-requires-2 : tie.Need-bytes-most-requires-2
-bytes-most-requires-2 c κs = let h = known (c .before .before) in omega arith
+bytes-most-requires-2 c κs = let h = known (accepted c) in omega arith
 
 returns-5 : tie.Need-returns-5
 unfolding monitorOk
-returns-5 c = let t = c .before .before .before .before in
+returns-5 c = let e = c .before in
+    let t = stated (e .before) in
     simp (
       sized t,
       role t,
       ← lettered t .letters-read .ensures .0,
-      said-yes (t .states-ok .ensures) (c .before .before .before .if3 .left),
-      said-yes (accepts (c .before .before)) (c .before .if4 .left),
+      numbers (accepted e),
+      said-yes (accepts (e .before)) (e .if4 .left),
     ) (c .bytes-most2 .ensures)
 
 pub monitor-ok-spec : {M : Type 1} → statement M

@@ -1,6 +1,7 @@
 -- `sheet::monitor::take_monitor`: the tests in the definition's order. Assumes nothing.
 use mathlib.Core.Path.{_≡_}
 use mathlib.Core.Bool.{true, false}
+use Prim.Native.Nat.{ℕ}
 use native.Mathlib.Omega.{arith}
 use borrow.Author.Tests.{le-leb, lt-leb}
 use borrow.Author.Needs.{needs}
@@ -12,12 +13,16 @@ use Rattle.sheet.proofs.Facts.{monitor-least}
 use Rattle.sheet.proofs.monitor.take_monitor.Statement.{statement}
 use Rattle.sheet.proofs.monitor.take_monitor.Tie as tie
 
--- whether there is room for one more
-full : (c : tie.Then1) → leb maxMonitors (c .before .before .before .args .sheet .count) ≡ true
-full c = le-leb maxMonitors (c .before .before .before .args .sheet .count) (omega arith)
+-- the monitors taken so far
+abbrev count : tie.After-struct-known → ℕ
+count c = c .before .before .args .sheet .count
 
-room : (c : tie.Else1) → leb maxMonitors (c .before .before .before .args .sheet .count) ≡ false
-room c = lt-leb maxMonitors (c .before .before .before .args .sheet .count) (omega arith)
+-- whether there is room for one more
+full : (c : tie.Then1) → leb maxMonitors (count (c .before)) ≡ true
+full c = le-leb maxMonitors (count (c .before)) (omega arith)
+
+room : (c : tie.Else1) → leb maxMonitors (count (c .before)) ≡ false
+room c = lt-leb maxMonitors (count (c .before)) (omega arith)
 
 refused-requires : tie.Need-refused-requires
 refused-requires c κs = search needs
@@ -48,8 +53,14 @@ accepted-requires c κs = search needs
 
 returns-3 : tie.Need-returns-3
 unfolding takeMonitor
-returns-3 c = let t = c .before .before .before in
-    simp (room (t .before .before), said-yes (t .before .monitor-ok .ensures) (t .if2 .left), ← c .before .before .monitor-at .ensures, ← c .before .with-monitor .ensures) (c .accepted .ensures)
+returns-3 c = let m = c .before .before in
+    let e = m .before in
+    simp (
+      room (e .before .before),
+      said-yes (e .before .monitor-ok .ensures) (e .if2 .left),
+      ← m .monitor-at .ensures,
+      ← c .before .with-monitor .ensures,
+    ) (c .accepted .ensures)
 
 pub take-monitor-spec : {M : Type 1} → statement M
 take-monitor-spec =

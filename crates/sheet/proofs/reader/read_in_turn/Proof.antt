@@ -2,6 +2,7 @@
 use mathlib.Core.Path.{_≡_}
 use mathlib.Core.Bool.{true, false}
 use mathlib.Core.Logic.{⊎-elim}
+use Prim.Native.Nat.{ℕ}
 use native.Mathlib.Omega.{arith}
 use borrow.Author.Tests.{eq-eqb, ne-eqb}
 use borrow.Author.Needs.{needs}
@@ -10,27 +11,39 @@ use lib.Dec.{eqb}
 use Rattle.records.specs.Laws.Tests.{said}
 use Rattle.records.specs.Meaning.Records.{readAt}
 use Rattle.records.specs.Laws.Cursor.{lies}
+use Rattle.records.specs.declared.cursor.Found.{Found}
 use Rattle.records.specs.declared.cursor.Found.the-variants as found
 use Rattle.sheet.specs.Model.Reader.{reading, firstFound}
 use Rattle.sheet.proofs.Walk.{head-lines}
 use Rattle.sheet.proofs.reader.read_in_turn.Statement.{statement}
 use Rattle.sheet.proofs.reader.read_in_turn.Tie as tie
 
-abbrev begun : tie.After-kind → tie.After-first
-begun c = c .before .before .before
+-- the places that the needs look back to
+abbrev entry : tie.After-read → tie.Start
+entry c = c .before .before .before
+
+abbrev headed : tie.After-sheet → tie.After-read-head
+headed c = c .before .before .before
+
+-- the kind of a record at its arm
+abbrev kindOf : tie.After-known-told → ℕ
+kindOf c = c .before .kind .given .0 .0
 
 -- what the cursor found first
+first : (c : tie.After-read) {f : Found} → c .read .result ≡ f → readAt (now (entry c .args .s)) 0 ≡ f
+first c e = rw (c .before .first .ensures) at (said (c .read .ensures .whole) e)
+
 here : (c : tie.After-kind)
-    → readAt (now (begun c .before .before .args .s)) 0
+    → readAt (now (entry (c .before .before) .args .s)) 0
     ≡ found.Record (c .kind .given .0 .0) (c .kind .given .0 .1 .0) (c .kind .given .0 .1 .1 .0) (c .kind .given .0 .1 .1 .1 .0)
-here c = rw (begun c .first .ensures) at (said (c .before .before .read .ensures .whole) (c .kind .given .1))
+here c = first (c .before .before) (c .kind .given .1)
 
 -- a head's kind, and any other
-is-head : (c : tie.At-match2-keys1) → eqb (c .before .before .kind .given .0 .0) 1 ≡ true
-is-head c = eq-eqb (c .before .before .kind .given .0 .0) 1 (omega arith)
+is-head : (c : tie.At-match2-keys1) → eqb (kindOf (c .before)) 1 ≡ true
+is-head c = eq-eqb (kindOf (c .before)) 1 (omega arith)
 
-other : (c : tie.At-match2-came) → eqb (c .before .before .kind .given .0 .0) 1 ≡ false
-other c = ne-eqb (c .before .before .kind .given .0 .0) 1 (λ z. ⊎-elim (λ w. omega arith) (λ w. omega arith) (c .match2 .came))
+other : (c : tie.At-match2-came) → eqb (kindOf (c .before)) 1 ≡ false
+other c = ne-eqb (kindOf (c .before)) 1 (λ z. ⊎-elim (λ w. omega arith) (λ w. omega arith) (c .match2 .came))
 
 first-requires : tie.Need-first-requires
 first-requires c κs = search needs
@@ -61,7 +74,7 @@ enum-told-3 : tie.Need-enum-told-3
 enum-told-3 c = search needs
 
 read-records-requires : tie.Need-read-records-requires
-read-records-requires c κs = let t = c .before .before .before in
+read-records-requires c κs = let t = headed c in
     rw (t .read-head .ensures) (head-lines _ _ _ (rw (t .read-head .ensures) at (c .before .enum-told3 .given .1)))
 
 enum-known-verdict : tie.Need-enum-known-verdict
@@ -75,28 +88,31 @@ refused-requires-4 c κs = search needs
 
 returns : tie.Need-returns
 unfolding reading firstFound
-returns c = let f = c .before .before .before in
-    simp (rw (f .before .first .ensures) at (said (f .read .ensures .whole) (c .before .enum-told .given .1))) (c .refused .ensures)
+returns c = let e = c .before in
+    simp (first (e .before .before) (e .enum-told .given .1)) (c .refused .ensures)
 
 returns-2 : tie.Need-returns-2
 unfolding reading firstFound
-returns-2 c = let f = c .before .before .before in
-    simp (rw (f .before .first .ensures) at (said (f .read .ensures .whole) (c .before .enum-told2 .given .1))) (c .refused2 .ensures)
+returns-2 c = let e = c .before in
+    simp (first (e .before .before) (e .enum-told2 .given .1)) (c .refused2 .ensures)
 
 returns-3 : tie.Need-returns-3
 unfolding reading firstFound
-returns-3 c = let t = c .before .before .before .before in
-    simp (here (t .before .before .before), is-head (t .before), ← t .read-head .ensures, c .before .before .enum-told3 .given .1) (c .read-records .ensures)
+returns-3 c = let t = headed (c .before) in
+    let m = t .before in
+    simp (here (m .before .before), is-head m, ← t .read-head .ensures, c .before .before .enum-told3 .given .1) (c .read-records .ensures)
 
 returns-4 : tie.Need-returns-4
 unfolding reading firstFound
-returns-4 c = let t = c .before .before .before .before in
-    simp (here (t .before .before .before), is-head (t .before), ← t .read-head .ensures, c .before .before .verdict .given .1) (c .refused3 .ensures)
+returns-4 c = let v = c .before .before in
+    let t = v .before .before in
+    let m = t .before in
+    simp (here (m .before .before), is-head m, ← t .read-head .ensures, v .verdict .given .1) (c .refused3 .ensures)
 
 returns-5 : tie.Need-returns-5
 unfolding reading firstFound
-returns-5 c = let t = c .before .before .before in
-    simp (here t, other (c .before)) (c .refused4 .ensures)
+returns-5 c = let m = c .before in
+    simp (here (m .before .before), other m) (c .refused4 .ensures)
 
 pub read-in-turn-spec : {M : Type 1} → statement M
 read-in-turn-spec =

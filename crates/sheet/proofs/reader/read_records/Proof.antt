@@ -20,8 +20,15 @@ Inv-loop s from sheet₀ at₀ sheet at = Walked s sheet₀ at₀ sheet at
 abbrev μ-loop : tie.MeasureT-loop
 μ-loop s from sheet₀ at₀ sheet at = length s - at
 
+-- the places that the needs look back to
 abbrev turn : tie.After-kind Inv-loop μ-loop → tie.At-loop Inv-loop μ-loop
 turn c = c .before .before .before
+
+abbrev given : tie.After-take-record Inv-loop μ-loop → tie.After-kind Inv-loop μ-loop
+given c = c .before .before
+
+abbrev taken : tie.After-grown Inv-loop μ-loop → tie.After-take-record Inv-loop μ-loop
+taken c = c .before .before .before
 
 -- what the cursor found
 here : (c : tie.After-kind Inv-loop μ-loop)
@@ -42,7 +49,9 @@ accepted-requires : tie.Need-accepted-requires Inv-loop μ-loop
 accepted-requires c κs = search needs
 
 returns : tie.Need-returns Inv-loop μ-loop
-returns c = c .accepted .ensures ∙ ended (c .before .before .before .before .loop .inv) (said (c .before .before .before .read .ensures .whole) (c .before .enum-told .given .1))
+returns c = let e = c .before in
+    let r = e .before .before in
+    c .accepted .ensures ∙ ended (r .before .loop .inv) (said (r .read .ensures .whole) (e .enum-told .given .1))
 
 enum-told-2 : tie.Need-enum-told-2 Inv-loop μ-loop
 enum-told-2 c = search needs
@@ -51,7 +60,9 @@ refused-requires : tie.Need-refused-requires Inv-loop μ-loop
 refused-requires c κs = search needs
 
 returns-2 : tie.Need-returns-2 Inv-loop μ-loop
-returns-2 c = c .refused .ensures ∙ cut (c .before .before .before .before .loop .inv) (said (c .before .before .before .read .ensures .whole) (c .before .enum-told2 .given .1))
+returns-2 c = let e = c .before in
+    let r = e .before .before in
+    c .refused .ensures ∙ cut (r .before .loop .inv) (said (r .read .ensures .whole) (e .enum-told2 .given .1))
 
 enum-known-kind : tie.Need-enum-known-kind Inv-loop μ-loop
 enum-known-kind c = search needs
@@ -65,12 +76,12 @@ enum-told-3 : tie.Need-enum-told-3 Inv-loop μ-loop
 enum-told-3 c = search needs
 
 loop-less : tie.Need-loop-less Inv-loop μ-loop
-loop-less c = let l = lies _ _ (here (c .before .before .before .before .before)) in
+loop-less c = let l = lies _ _ (here (given (taken c))) in
     omega arith
 
 loop-again : tie.Need-loop-again Inv-loop μ-loop
-loop-again c = let t = c .before .before .before .before .before in
-    more (turn t .loop .inv) (here t) (c .before .before .before .take-record .ensures) (c .before .enum-told3 .given .1)
+loop-again c = let t = taken c in
+    more (turn (given t) .loop .inv) (here (given t)) (t .take-record .ensures) (c .before .enum-told3 .given .1)
 
 enum-known-verdict : tie.Need-enum-known-verdict Inv-loop μ-loop
 enum-known-verdict c = search needs
@@ -79,8 +90,9 @@ refused-requires-2 : tie.Need-refused-requires-2 Inv-loop μ-loop
 refused-requires-2 c κs = search needs
 
 returns-3 : tie.Need-returns-3 Inv-loop μ-loop
-returns-3 c = let t = c .before .before .before .before .before .before in
-    c .refused2 .ensures ∙ stopped (turn t .loop .inv) (here t) (c .before .before .before .before .take-record .ensures) (c .before .before .verdict .given .1)
+returns-3 c = let v = c .before .before in
+    let t = v .before .before in
+    c .refused2 .ensures ∙ stopped (turn (given t) .loop .inv) (here (given t)) (t .take-record .ensures) (v .verdict .given .1)
 
 pub read-records-spec : {M : Type 1} → statement M
 read-records-spec =

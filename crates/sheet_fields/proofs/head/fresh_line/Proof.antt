@@ -20,6 +20,10 @@ Inv-loop s at j i₀ i = (i ≤ j) × ((k : ℕ) → k < i → not (eqb (getD s 
 abbrev μ-loop : tie.MeasureT-loop
 μ-loop s at j i₀ i = j - i
 
+-- the place that the needs look back to
+abbrev turn : tie.After-shared-slice-known2 Inv-loop μ-loop → tie.At-loop Inv-loop μ-loop
+turn c = c .before .before .before
+
 loop-holds : tie.Need-loop-holds Inv-loop μ-loop
 loop-holds c = (omega arith, below-none _)
 
@@ -37,7 +41,7 @@ shared-slice-read-if1-2 c = search needs
 
 returns : tie.Need-returns Inv-loop μ-loop
 unfolding freshLine
-returns c = sym (all-fails _ _ (c .before .before .before .before .loop .i) (omega arith) (search cases))
+returns c = sym (all-fails _ _ (turn (c .before) .loop .i) (omega arith) (search cases))
 
 add-i : tie.Need-add-i Inv-loop μ-loop
 add-i c = search needs
@@ -46,7 +50,7 @@ loop-less : tie.Need-loop-less Inv-loop μ-loop
 loop-less c = search needs
 
 loop-again : tie.Need-loop-again Inv-loop μ-loop
-loop-again c = (omega arith, below-more _ _ (c .before .before .before .before .loop .inv .1) (search cases))
+loop-again c = (omega arith, below-more _ _ (turn (c .before) .loop .inv .1) (search cases))
 
 returns-2 : tie.Need-returns-2 Inv-loop μ-loop
 unfolding freshLine

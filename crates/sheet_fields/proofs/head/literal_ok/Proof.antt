@@ -11,8 +11,9 @@ use Rattle.sheet_fields.specs.Meaning.Head.{literalOk}
 use Rattle.sheet_fields.proofs.head.literal_ok.Statement.{statement}
 use Rattle.sheet_fields.proofs.head.literal_ok.Tie as tie
 
-abbrev literal : tie.Start → ℕ
-literal c = getD (now (c .args .s)) (c .args .at + c .args .j) 0
+-- the literal that a place past its read speaks of
+abbrev literal : tie.After-shared-slice-known2 → ℕ
+literal c = let a = c .before .before .args in getD (now (a .s)) (a .at + a .j) 0
 
 add-literal : tie.Need-add-literal
 add-literal c = search needs
@@ -22,7 +23,7 @@ shared-slice-read-literal c = search needs
 
 returns : tie.Need-returns
 unfolding literalOk
-returns c = simp (le-ltb (literal (c .before .before .before)) literalEnd (omega arith))
+returns c = simp (le-ltb (literal (c .before)) literalEnd (omega arith))
 
 returns-2 : tie.Need-returns-2
 unfolding literalOk

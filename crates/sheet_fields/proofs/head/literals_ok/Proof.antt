@@ -18,6 +18,10 @@ Inv-loop s at outputs n j₀ j = (j ≤ outputs) × ((k : ℕ) → k < j → lit
 abbrev μ-loop : tie.MeasureT-loop
 μ-loop s at outputs n j₀ j = outputs - j
 
+-- the place that the needs look back to
+abbrev turn : tie.After-literal-ok Inv-loop μ-loop → tie.At-loop Inv-loop μ-loop
+turn c = c .before .before
+
 loop-holds : tie.Need-loop-holds Inv-loop μ-loop
 loop-holds c = (omega arith, below-none _)
 
@@ -26,7 +30,7 @@ literal-ok-requires c κs = search needs
 
 returns : tie.Need-returns Inv-loop μ-loop
 unfolding literalsOk
-returns c = sym (all-fails _ _ (c .before .before .before .loop .j) (omega arith) (said-no (c .before .literal-ok .ensures) (c .if1 .taken)))
+returns c = sym (all-fails _ _ (turn (c .before) .loop .j) (omega arith) (said-no (c .before .literal-ok .ensures) (c .if1 .taken)))
 
 add-j : tie.Need-add-j Inv-loop μ-loop
 add-j c = search needs
@@ -35,7 +39,7 @@ loop-less : tie.Need-loop-less Inv-loop μ-loop
 loop-less c = search needs
 
 loop-again : tie.Need-loop-again Inv-loop μ-loop
-loop-again c = (omega arith, below-more _ _ (c .before .before .before .loop .inv .1) (said-yes (c .before .literal-ok .ensures) (c .if1 .left)))
+loop-again c = (omega arith, below-more _ _ (turn (c .before) .loop .inv .1) (said-yes (c .before .literal-ok .ensures) (c .if1 .left)))
 
 returns-2 : tie.Need-returns-2 Inv-loop μ-loop
 unfolding literalsOk

@@ -20,6 +20,10 @@ Inv-loop s at n most k₀ k = (k ≤ n) × ((j : ℕ) → j < k → leb (getD s 
 abbrev μ-loop : tie.MeasureT-loop
 μ-loop s at n most k₀ k = n - k
 
+-- the place that the needs look back to
+abbrev turn : tie.After-shared-slice-known Inv-loop μ-loop → tie.At-loop Inv-loop μ-loop
+turn c = c .before .before
+
 loop-holds : tie.Need-loop-holds Inv-loop μ-loop
 loop-holds c = (omega arith, below-none _)
 
@@ -31,7 +35,7 @@ shared-slice-read-if1 c = search needs
 
 returns : tie.Need-returns Inv-loop μ-loop
 unfolding bytesMost
-returns c = sym (all-fails _ _ (c .before .before .before .loop .k) (omega arith) (search cases))
+returns c = sym (all-fails _ _ (turn (c .before) .loop .k) (omega arith) (search cases))
 
 add-k : tie.Need-add-k Inv-loop μ-loop
 add-k c = search needs
@@ -40,7 +44,7 @@ loop-less : tie.Need-loop-less Inv-loop μ-loop
 loop-less c = search needs
 
 loop-again : tie.Need-loop-again Inv-loop μ-loop
-loop-again c = (omega arith, below-more _ _ (c .before .before .before .loop .inv .1) (search cases))
+loop-again c = (omega arith, below-more _ _ (turn (c .before) .loop .inv .1) (search cases))
 
 returns-2 : tie.Need-returns-2 Inv-loop μ-loop
 unfolding bytesMost

@@ -10,10 +10,14 @@ use Rattle.sheet_fields.specs.Meaning.Monitor.{statesOk}
 use Rattle.sheet_fields.proofs.monitor.states_ok.Statement.{statement}
 use Rattle.sheet_fields.proofs.monitor.states_ok.Tie as tie
 
+-- the place that the needs look back to
+abbrev entry : tie.Else3 → tie.Start
+entry c = c .before .before .before
+
 -- the size of the rows
-rows : (c : tie.Else3) → c .before .before .before .args .states * c .before .before .before .args .letters ≤ maxMonitorStates * 64
+rows : (c : tie.Else3) → entry c .args .states * entry c .args .letters ≤ maxMonitorStates * 64
 rows c =
-    let at = c .before .before .before .args in
+    let at = entry c .args in
     mul-le-mul {n₁ = at .states} {m₁ = at .letters} {n₂ = maxMonitorStates} {m₂ = 64} (omega arith) (omega arith)
 
 returns : tie.Need-returns
