@@ -3,8 +3,9 @@ use mathlib.Core.Path.{_≡_, ap}
 use mathlib.Core.List.{List, _++_}
 use Prim.Native.Nat.{ℕ, _+_, _≤_}
 use native.Mathlib.Omega.{arith}
-use lib.ListN.{length, getD, length-append}
+use lib.ListN.{length, length-append}
 use Rattle.records.specs.Meaning.Lists.{cat}
+use Rattle.guard_table.specs.Meaning.GuardTable.{headInputs, headOutputs, headHorizon}
 use Rattle.listing_text.specs.Meaning.Listing.{headLine, rowOf, listingOf}
 use Rattle.listing_text.specs.Laws.Pieces.{put-same, put-then, put-as, fits-rest, listing-parts}
 use Rattle.listing_text.proofs.put_listing.Statement.{statement}
@@ -22,10 +23,10 @@ headed c = c .before .before .before .before
 
 -- the two parts
 abbrev head : tie.After-u16-at → List ℕ
-head c = let t = start c .args .table .now in headLine (c .u16-at .result) (getD t 5 0) (getD t 6 0) (getD t 7 0)
+head c = let t = start c .args .table .now in headLine (c .u16-at .result) (headInputs t) (headOutputs t) (headHorizon t)
 
 abbrev rows : tie.After-u16-at → List ℕ
-rows c = let t = start c .args .table .now in cat (c .u16-at .result) (rowOf t (getD t 5 0))
+rows c = let t = start c .args .table .now in cat (c .u16-at .result) (rowOf t (headInputs t))
 
 parts : (c : tie.After-u16-at) → head c ++ rows c ≡ listingOf (start c .args .table .now)
 parts c = listing-parts (start c .args .table .now) (c .u16-at .ensures)
