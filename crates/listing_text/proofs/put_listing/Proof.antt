@@ -15,11 +15,11 @@ use Rattle.listing_text.proofs.put_listing.Tie as tie
 abbrev start : tie.After-u16-at → tie.Start
 start c = c .before .before .before .before
 
-abbrev counted : tie.After-put-head → tie.After-u16-at
-counted c = c .before .before .before .before
+abbrev counted : tie.After-shared-slice-known4 → tie.After-u16-at
+counted c = c .before .before .before
 
-abbrev headed : tie.After-put-rows → tie.After-put-head
-headed c = c .before .before .before .before
+abbrev headed : tie.After-put-rows-arg → tie.After-put-head
+headed c = c .before .before .before
 
 -- the two parts
 abbrev head : tie.After-u16-at → List ℕ
@@ -50,17 +50,18 @@ shared-slice-read-put-head-2 : tie.Need-shared-slice-read-put-head-2
 shared-slice-read-put-head-2 c = omega arith
 
 put-head-requires : tie.Need-put-head-requires
-put-head-requires c κs = let at = c .before .before .before in
+put-head-requires c κs = let at = counted c in
     (omega (arith, start at .pre .0 .1 .count-most, at .u16-at .ensures), omega (arith, room at, length-append (head at) (rows at)))
 
 put-rows-requires : tie.Need-put-rows-requires
-put-rows-requires c κs = let done = c .before .before .before in
-    let at = counted done in
+put-rows-requires c κs = let done = headed c in
+    let at = counted (done .before) in
     (rw (at .u16-at .ensures) (start at .pre .0 .1), fits-rest (done .put-head .ensures) (rows at) (omega (arith, room at)))
 
 returns : tie.Need-returns
 returns c = let done = c .before .before in
-    put-as (put-then (headed done .put-head .ensures) (done .put-rows .ensures)) (parts (counted (headed done)))
+    let first = headed (done .before) in
+    put-as (put-then (first .put-head .ensures) (done .put-rows .ensures)) (parts (counted (first .before)))
 
 same-length : tie.Need-same-length
 same-length c = put-same (returns c)
