@@ -27,7 +27,8 @@ room1 : (c : tie.After-put-byte) →
     let a = start c .args .entry in
     c .put-byte .result + length (decimal (a .output) ++ (62 ∷ decimal (a .next))) ≤ length (c .put-byte .last .0)
 unfolding entryText
-room1 c = let a = start c .args .entry in fits-rest (c .put-byte .ensures) (decimal (a .output) ++ (62 ∷ decimal (a .next))) (start c .pre .0)
+room1 c = let a = start c .args .entry in
+    fits-rest (c .put-byte .ensures) (decimal (a .output) ++ (62 ∷ decimal (a .next))) (start c .pre .0)
 
 room2 : (c : tie.After-put-number) →
     let a = start (blank (c .before)) .args .entry in
