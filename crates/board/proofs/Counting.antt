@@ -59,7 +59,8 @@ counts-on b (step t i) es h =
     by-test (live b)
     (λ e. elim (step-case b e t i) [
       | refused a n q ↦ subst Kept (sym q) (pass b es (step t i) (stepSays (record { board = b; answer = a })) n h)
-      | taken s f q ↦ subst Kept (sym q) (count-taken b t i (outputIn t (b .inputs) (b .place) i) (nextIn t (b .inputs) (b .place) i) es e h)
+      | taken s f q ↦
+          subst Kept (sym q) (count-taken b t i (outputIn t (b .inputs) (b .place) i) (nextIn t (b .inputs) (b .place) i) es e h)
     ])
     (λ e. subst Kept (sym (step-empty b e t i)) h)
 counts-on b rewind es h =

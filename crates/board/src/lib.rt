@@ -84,10 +84,10 @@ fn board_of(t: &[u8]) -> Board
 {
     Board {
         loaded: true,
-        mode: t[4],
-        inputs: t[5],
-        outputs: t[6],
-        count: u16_at(t, 8),
+        mode: t[Layout::MODE],
+        inputs: t[Layout::INPUTS],
+        outputs: t[Layout::OUTPUTS],
+        count: u16_at(t, Layout::COUNT),
         place: 0,
         steps: 0,
         deviations: 0,

@@ -1,17 +1,17 @@
--- A board's bytes give the board back.
+-- A board's bytes give the board back, and are what its fields leave, stored one after the other.
 -- Assumes nothing.
 use mathlib.Core.Path.{_≡_, refl, _∙_}
 use mathlib.Core.Bool.{Bool, true, false, cond}
-use mathlib.Core.List.{List, append-nil}
+use mathlib.Core.List.{List, [], _∷_, append-nil}
 use Prim.Native.Nat.{ℕ, _+_, _*_, _/_, _%_}
 use native.Mathlib.Omega.{arith}
 use lib.Dec.{eqb}
 use lib.ListN.{length, drop-of-length-le}
 use lib.Seq.{sets}
 use Rattle.records.specs.Laws.Lists.{sets-front}
-use Rattle.records.specs.Meaning.Numbers.{u16At}
+use Rattle.records.specs.Meaning.Numbers.{u16At, u16Bytes}
 use Rattle.board.specs.declared.Board.{Board}
-use Rattle.board_bytes.specs.Meaning.BoardBytes.{u32At, boardIn, boardBytes}
+use Rattle.board_bytes.specs.Meaning.BoardBytes.{u32At, u32Bytes, boardLength, boardIn, boardBytes}
 
 -- a board that was written is read back
 pub board-back : (b : Board) → boardIn (boardBytes b) ≡ b
@@ -29,5 +29,16 @@ board-back b = simp (bit (b .loaded), two, four)
     four v = omega arith
 
 -- stores that fill a list leave nothing of it
-pub sets-whole : (s t : List ℕ) → length s ≡ length t → sets s 0 t ≡ t
+sets-whole : (s t : List ℕ) → length s ≡ length t → sets s 0 t ≡ t
 sets-whole s t e = sets-front s t (omega arith) ∙ (rw (drop-of-length-le s {i = length t} (omega arith)) (append-nil t))
+
+-- the fields one after the other fill a slice of a board's length
+pub fields-stored : (b : Board) (s : List ℕ) {first count place steps deviations : List ℕ} → length s ≡ boardLength
+    → first ≡ sets s 0 (cond (b .loaded) 1 0 ∷ b .mode ∷ b .inputs ∷ b .outputs ∷ [])
+    → count ≡ sets first 4 (u16Bytes (b .count))
+    → place ≡ sets count 6 (u16Bytes (b .place))
+    → steps ≡ sets place 8 (u32Bytes (b .steps))
+    → deviations ≡ sets steps 12 (u32Bytes (b .deviations))
+    → deviations ≡ boardBytes b
+unfolding boardBytes
+fields-stored b s e f c p t d = rw (d, t, p, c, f) (sets-whole s (boardBytes b) e)

@@ -26,8 +26,8 @@ unfolding bytesAfter
 untouched before n b e = rw (ne-eqb n 0 e)
 
 -- the promises: b is the board that was read, n the number that the code worked out
-pub loads : (before t after : List ℕ) (b : Board) (x : Loading) (n : ℕ) → b ≡ boardIn before → LoadPromise b t x → n ≡ loadNumber (x .answer)
-    → after ≡ bytesAfter before n (x .board) → LoadCall before t n after
+pub loads : (before t after : List ℕ) (b : Board) (x : Loading) (n : ℕ) → b ≡ boardIn before → LoadPromise b t x
+    → n ≡ loadNumber (x .answer) → after ≡ bytesAfter before n (x .board) → LoadCall before t n after
 loads before t after b x n e p q h =
     record {
       loading = x;

@@ -28,11 +28,11 @@ pub fn put_head(result: &mut [u8], mode: u8, inputs: u8, outputs: u8, horizon: u
     ensures { λ _. ⌜ now (result .exit) ≡ sets (now (result .entry)) 0 (guardHead mode inputs outputs horizon count) ⌝ }
 {
     put_header(result, 0, Layout::HEAD_SIZE, Layout::HEAD_KIND);
-    result[4] = mode;
-    result[5] = inputs;
-    result[6] = outputs;
-    result[7] = horizon;
-    put_u16(result, 8, count);
+    result[Layout::MODE] = mode;
+    result[Layout::INPUTS] = inputs;
+    result[Layout::OUTPUTS] = outputs;
+    result[Layout::HORIZON] = horizon;
+    put_u16(result, Layout::COUNT, count);
 }
 
 // Writes the header of a state's row.

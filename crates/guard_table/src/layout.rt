@@ -24,6 +24,17 @@ impl Layout {
 
     pub const HEAD_LENGTH: usize = 10;
 
+    // Where the head's fields stand.
+    pub const MODE: usize = 4;
+
+    pub const INPUTS: usize = 5;
+
+    pub const OUTPUTS: usize = 6;
+
+    pub const HORIZON: usize = 7;
+
+    pub const COUNT: usize = 8;
+
     // An entry: output and next state.
     pub const ENTRY_WIDTH: usize = 2;
 

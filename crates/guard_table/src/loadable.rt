@@ -48,7 +48,14 @@ fn head_ok(t: &[u8]) -> bool
         return false;
     }
     if header_is(t, 0, Layout::HEAD_SIZE, Layout::HEAD_KIND) {
-        return fields_ok(t[4], t[5], t[6], t[7], u16_at(t, 8), t.len());
+        return fields_ok(
+            t[Layout::MODE],
+            t[Layout::INPUTS],
+            t[Layout::OUTPUTS],
+            t[Layout::HORIZON],
+            u16_at(t, Layout::COUNT),
+            t.len(),
+        );
     }
     false
 }
@@ -104,7 +111,12 @@ pub fn is_loadable(t: &[u8]) -> bool
     ensures { λ r. ⌜ r ≡ loadable (now (t .entry)) ⌝ }
 {
     if head_ok(t) {
-        return rows_ok(t, t[5], t[6], u16_at(t, 8) as usize);
+        return rows_ok(
+            t,
+            t[Layout::INPUTS],
+            t[Layout::OUTPUTS],
+            u16_at(t, Layout::COUNT) as usize,
+        );
     }
     false
 }

@@ -1,6 +1,7 @@
 // How long the pieces of a listing are, so that it is known before any is put.
 use guard_table::entry::Entry;
 use guard_table::entry::entry_in;
+use guard_table::layout::Layout;
 use records::numbers::pow2;
 use records::numbers::u16_at;
 ghost use mathlib.Core.Path.{_≡_};
@@ -89,7 +90,13 @@ pub fn listing_length(table: &[u8]) -> usize
     requires { ⌜ (headLength ≤ length (now table)) × Sized (now table) (getD (now table) 5 0) (u16At (now table) 8) ⌝ }
     ensures { λ r. ⌜ r ≡ length (listingOf (now (table .entry))) ⌝ }
 {
-    let inputs = table[5];
-    let count = u16_at(table, 8) as usize;
-    head_length(count, inputs, table[6], table[7]) + rows_length(table, inputs, count)
+    let inputs = table[Layout::INPUTS];
+    let count = u16_at(table, Layout::COUNT) as usize;
+    head_length(
+        count,
+        inputs,
+        table[Layout::OUTPUTS],
+        table[Layout::HORIZON],
+    )
+        + rows_length(table, inputs, count)
 }

@@ -3,6 +3,7 @@ pub mod lengths;
 
 use guard_table::entry::Entry;
 use guard_table::entry::entry_in;
+use guard_table::layout::Layout;
 use records::numbers::pow2;
 use records::numbers::u16_at;
 ghost use mathlib.Core.Path.{_≡_};
@@ -159,8 +160,14 @@ pub fn put_listing(text: &mut [u8], table: &[u8]) -> usize
     requires { ⌜ length (listingOf (now table)) ≤ length (now text) ⌝ }
     ensures { λ r. ⌜ Put (now (text .entry)) 0 (listingOf (now (table .entry))) r (now (text .exit)) ⌝ }
 {
-    let inputs = table[5];
-    let count = u16_at(table, 8) as usize;
-    let end = put_head(text, count, inputs, table[6], table[7]);
+    let inputs = table[Layout::INPUTS];
+    let count = u16_at(table, Layout::COUNT) as usize;
+    let end = put_head(
+        text,
+        count,
+        inputs,
+        table[Layout::OUTPUTS],
+        table[Layout::HORIZON],
+    );
     put_rows(text, end, table, inputs, count)
 }

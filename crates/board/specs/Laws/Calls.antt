@@ -7,13 +7,12 @@ use Prim.Native.Nat.{ℕ, _+_, _-_, _*_, _^_, _≤_, _<_}
 use native.Mathlib.Nat.{add-comm, mul-comm}
 use native.Mathlib.Omega.{arith}
 use lib.Dec.{ltb, leb, eqb}
-use lib.ListN.{length, getD}
+use lib.ListN.{length}
 use lib.Pow.{high}
 use borrow.Author.Tests.{leb-false, ltb-true, lt-ltb, le-ltb, lt-leb, le-leb, eq-eqb}
 use Rattle.records.specs.Laws.Tests.{and-left, and-right, and-both, by-test}
-use Rattle.records.specs.Meaning.Numbers.{u16At}
 use Rattle.records.specs.Meaning.Limits.{maxSteps}
-use Rattle.guard_table.specs.Meaning.GuardTable.{tableLength, outputIn, nextIn}
+use Rattle.guard_table.specs.Meaning.GuardTable.{tableLength, headMode, headInputs, headOutputs, headCount, outputIn, nextIn}
 use Rattle.game.specs.Meaning.Proposal.{proposal, deviates}
 use Rattle.game.specs.Meaning.Book.{Call, load, step, rewind, unload}
 use Rattle.board.specs.Meaning.Board.{live, emptyBoard, runAt, rewindOn, unloadOn}
@@ -66,10 +65,10 @@ module _ (b : Board) (e : live b ≡ false) where
 
 -- the board has the mode, lines and count of the table's head
 pub record ShowsHead (b : Board) (t : List ℕ) : Type 0 where
-  pub mode : b .mode ≡ getD t 4 0
-  pub inputs : b .inputs ≡ getD t 5 0
-  pub outputs : b .outputs ≡ getD t 6 0
-  pub count : b .count ≡ u16At t 8
+  pub mode : b .mode ≡ headMode t
+  pub inputs : b .inputs ≡ headInputs t
+  pub outputs : b .outputs ≡ headOutputs t
+  pub count : b .count ≡ headCount t
 
 -- the board that a loadable table gives is live
 pub loaded-live : (t : List ℕ) → loadable t ≡ true → live (boardOf t) ≡ true
@@ -234,7 +233,7 @@ module _ (b : Board) (e : live b ≡ true) where
     unfolding entryFits
     entry-fits h = fits (b .inputs) (b .outputs) (b .count) (s .inputs) (s .outputs) (s .count) (live-facts b e .place) h
       where
-        fits : (inputs outputs count : ℕ) → inputs ≡ getD t 5 0 → outputs ≡ getD t 6 0 → count ≡ u16At t 8 → b .place < count
+        fits : (inputs outputs count : ℕ) → inputs ≡ headInputs t → outputs ≡ headOutputs t → count ≡ headCount t → b .place < count
             → i < 2 ^ inputs → (eqb (length t) (tableLength inputs count) && entryOk (outputIn t inputs (b .place) i) (nextIn t inputs (b .place) i) outputs count) ≡ true
         fits n o k p q r h m =
             rw (p, q, r)

@@ -3,8 +3,7 @@
 use mathlib.Core.Bool.{true, cond}
 use mathlib.Core.List.{List}
 use Prim.Native.Nat.{ℕ}
-use lib.ListN.{getD}
-use Rattle.records.specs.Meaning.Numbers.{u16At}
+use Rattle.guard_table.specs.Meaning.GuardTable.{headMode, headInputs, headOutputs, headCount}
 use Rattle.guard_table.specs.Meaning.Loadable.{loadable}
 use Rattle.board.specs.Meaning.Board.{live}
 use Rattle.board.specs.declared.Board.{Board}
@@ -15,7 +14,16 @@ use Rattle.board.specs.declared.answers.Loading.{Loading}
 -- the board that a table gives: its head's mode, lines and count, at the start of a run
 unfoldable pub boardOf : List ℕ → Board
 boardOf t =
-    record { loaded = true; mode = getD t 4 0; inputs = getD t 5 0; outputs = getD t 6 0; count = u16At t 8; place = 0; steps = 0; deviations = 0 }
+    record {
+      loaded = true;
+      mode = headMode t;
+      inputs = headInputs t;
+      outputs = headOutputs t;
+      count = headCount t;
+      place = 0;
+      steps = 0;
+      deviations = 0;
+    }
 
 unfoldable pub loadOn : Board → List ℕ → Loading
 loadOn b t =

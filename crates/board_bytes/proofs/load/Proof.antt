@@ -24,7 +24,8 @@ returns c =
     let handed = c .before .before in
     let answered = handed .before .before in
     let called = answered .before .before in
-    loads _ _ _ _ _ _ (called .before .board-in .ensures) (called .load .ensures) (answered .load-number .ensures) (handed .hand-back .ensures)
+    loads _ _ _ _ _ _ (called .before .board-in .ensures) (called .load .ensures) (answered .load-number .ensures)
+    (handed .hand-back .ensures)
 
 pub load-spec : {M : Type 1} → statement M
 load-spec =

@@ -4,6 +4,13 @@ use borrow.Author.Needs.{needs}
 use Rattle.board_bytes.proofs.step.Statement.{statement}
 use Rattle.board_bytes.proofs.step.Tie as tie
 
+-- the places that the need looks back to
+abbrev handed : tie.After-step-answer → tie.After-hand-back
+handed c = c .before .before .before
+
+abbrev called : tie.After-step-number → tie.After-step
+called c = c .before .before .before
+
 board-in-requires : tie.Need-board-in-requires
 board-in-requires c κs = search needs
 
@@ -24,11 +31,10 @@ same-length c = search needs
 
 returns : tie.Need-returns
 returns c =
-    let handed = c .before .before .before in
-    let counted = handed .before in
-    let called = counted .before .before .before in
-    steps _ _ _ _ _ _ _ _ (called .before .board-in .ensures) (called .step .ensures) (counted .step-number .ensures) (c .step-answer .ensures)
-    (handed .hand-back .ensures)
+    let numbered = handed c .before in
+    let at = called numbered in
+    steps _ _ _ _ _ _ _ _ (at .before .board-in .ensures) (at .step .ensures) (numbered .step-number .ensures) (c .step-answer .ensures)
+    (handed c .hand-back .ensures)
 
 pub step-spec : {M : Type 1} → statement M
 step-spec =

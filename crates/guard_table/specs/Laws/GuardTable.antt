@@ -15,7 +15,7 @@ use Rattle.records.specs.Meaning.Lists.{cat}
 use Rattle.records.specs.Laws.Lists.{length-cat, getD-cat, cat-ext}
 use Rattle.records.specs.Meaning.Numbers.{u16At}
 use Rattle.records.specs.Meaning.Records.{header, headerSize}
-use Rattle.guard_table.specs.Meaning.GuardTable.{headKind, rowKind, headSize, headLength, entryWidth, rowSize, rowLength, tableLength, rowAt, entryAt, headerIs, outputIn, nextIn, guardHead, guardEntry, guardRow, guardTable}
+use Rattle.guard_table.specs.Meaning.GuardTable.{headKind, rowKind, headSize, entryWidth, rowSize, headLength, rowLength, tableLength, rowAt, entryAt, headMode, headInputs, headOutputs, headHorizon, headCount, headerIs, outputIn, nextIn, guardHead, guardEntry, guardRow, guardTable}
 use Rattle.guard_table.specs.Model.Inside.{tableMost, Sized, RowInside, Inside}
 
 -- ---- inside a table of `count` states
@@ -104,11 +104,11 @@ table-ext mode inputs outputs horizon count out next out′ next′ e f =
 -- what the head reads, and that the table fills its bytes exactly
 pub record HeadReads (t : List ℕ) (mode inputs outputs horizon count : ℕ) : Type 0 where
   pub header-is : headerIs t 0 headSize headKind ≡ true
-  pub mode-is : getD t 4 0 ≡ mode
-  pub inputs-is : getD t 5 0 ≡ inputs
-  pub outputs-is : getD t 6 0 ≡ outputs
-  pub horizon-is : getD t 7 0 ≡ horizon
-  pub count-is : u16At t 8 ≡ count
+  pub mode-is : headMode t ≡ mode
+  pub inputs-is : headInputs t ≡ inputs
+  pub outputs-is : headOutputs t ≡ outputs
+  pub horizon-is : headHorizon t ≡ horizon
+  pub count-is : headCount t ≡ count
   pub fills : length t ≡ tableLength inputs count
 
 module _ (mode inputs outputs horizon count : ℕ) (out next : ℕ → ℕ → ℕ) where

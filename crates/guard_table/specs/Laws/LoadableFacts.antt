@@ -4,25 +4,24 @@ use mathlib.Core.Path.{_≡_, sym, ap₂, _∙_}
 use mathlib.Core.Bool.{Bool, true}
 use mathlib.Core.List.{List}
 use Prim.Native.Nat.{ℕ, _^_, _≤_, _<_}
-use lib.ListN.{length, getD}
+use lib.ListN.{length}
 use borrow.Author.Tests.{leb-true, eqb-true}
 use Rattle.records.specs.Laws.Tests.{and-left, and-right}
 use Rattle.records.specs.Meaning.Bounded.{all}
 use Rattle.records.specs.Laws.Bounded.{all-at}
-use Rattle.records.specs.Meaning.Numbers.{u16At}
 use Rattle.records.specs.Meaning.Limits.{maxStates, linesOk, horizonOk}
 use Rattle.records.specs.Laws.Limits.{Lines, lines-facts}
-use Rattle.guard_table.specs.Meaning.GuardTable.{headLength, tableLength, outputIn, nextIn}
+use Rattle.guard_table.specs.Meaning.GuardTable.{headLength, tableLength, headMode, headInputs, headOutputs, headHorizon, headCount, outputIn, nextIn}
 use Rattle.guard_table.specs.Meaning.Loadable.{sizeOk, fieldsOk, tableHeadOk, entryOk, entriesOk, rowOk, rowsOk, loadable}
 use Rattle.guard_table.specs.Model.Inside.{Sized}
 
 pub record Head (t : List ℕ) : Type 0 where
   pub long : headLength ≤ length t
-  pub lines : linesOk (getD t 4 0) (getD t 5 0) (getD t 6 0) ≡ true
-  pub horizon : horizonOk (getD t 5 0) (getD t 7 0) ≡ true
-  pub count-least : 1 ≤ u16At t 8
-  pub count-most : u16At t 8 ≤ maxStates
-  pub fills : length t ≡ tableLength (getD t 5 0) (u16At t 8)
+  pub lines : linesOk (headMode t) (headInputs t) (headOutputs t) ≡ true
+  pub horizon : horizonOk (headInputs t) (headHorizon t) ≡ true
+  pub count-least : 1 ≤ headCount t
+  pub count-most : headCount t ≤ maxStates
+  pub fills : length t ≡ tableLength (headInputs t) (headCount t)
 
 pub table-head-facts : (t : List ℕ) → tableHeadOk t ≡ true → Head t
 unfolding tableHeadOk fieldsOk sizeOk
@@ -31,15 +30,15 @@ table-head-facts t e =
       long = leb-true headLength (length t) (search and-left);
       lines = search (and-left, and-right);
       horizon = search (and-left, and-right) depth 9;
-      count-least = leb-true 1 (u16At t 8) (search (and-left, and-right) depth 9);
-      count-most = leb-true (u16At t 8) maxStates (search (and-left, and-right) depth 9);
-      fills = eqb-true (length t) (tableLength (getD t 5 0) (u16At t 8)) (search (and-left, and-right) depth 9);
+      count-least = leb-true 1 (headCount t) (search (and-left, and-right) depth 9);
+      count-most = leb-true (headCount t) maxStates (search (and-left, and-right) depth 9);
+      fills = eqb-true (length t) (tableLength (headInputs t) (headCount t)) (search (and-left, and-right) depth 9);
     }
 
-pub head-lines : (t : List ℕ) → tableHeadOk t ≡ true → Lines (getD t 4 0) (getD t 5 0) (getD t 6 0)
-head-lines t e = lines-facts (getD t 4 0) (getD t 5 0) (getD t 6 0) (table-head-facts t e .lines)
+pub head-lines : (t : List ℕ) → tableHeadOk t ≡ true → Lines (headMode t) (headInputs t) (headOutputs t)
+head-lines t e = lines-facts (headMode t) (headInputs t) (headOutputs t) (table-head-facts t e .lines)
 
-pub head-sized : (t : List ℕ) → tableHeadOk t ≡ true → Sized t (getD t 5 0) (u16At t 8)
+pub head-sized : (t : List ℕ) → tableHeadOk t ≡ true → Sized t (headInputs t) (headCount t)
 head-sized t e =
     let h = table-head-facts t e in
     record { inputs-most = head-lines t e .inputs-most; count-most = h .count-most; fills = h .fills }
@@ -48,7 +47,7 @@ pub loadable-head : (t : List ℕ) → loadable t ≡ true → Head t
 unfolding loadable
 loadable-head t e = table-head-facts t (search and-left)
 
-pub loadable-sized : (t : List ℕ) → loadable t ≡ true → Sized t (getD t 5 0) (u16At t 8)
+pub loadable-sized : (t : List ℕ) → loadable t ≡ true → Sized t (headInputs t) (headCount t)
 unfolding loadable
 loadable-sized t e = head-sized t (search and-left)
 
@@ -59,13 +58,13 @@ pub entry-tested : (t : List ℕ) (inputs place input outputs count : ℕ) {outp
 entry-tested t n p x o k e f g = sym (ap₂ (λ (x y : ℕ). entryOk x y o k) e f) ∙ g
 
 -- every entry of a loadable table is in range
-pub loadable-entry : (t : List ℕ) → loadable t ≡ true → (place input : ℕ) → place < u16At t 8 → input < 2 ^ getD t 5 0
-    → entryOk (outputIn t (getD t 5 0) place input) (nextIn t (getD t 5 0) place input) (getD t 6 0) (u16At t 8) ≡ true
+pub loadable-entry : (t : List ℕ) → loadable t ≡ true → (place input : ℕ) → place < headCount t → input < 2 ^ headInputs t
+    → entryOk (outputIn t (headInputs t) place input) (nextIn t (headInputs t) place input) (headOutputs t) (headCount t) ≡ true
 unfolding loadable rowsOk rowOk entriesOk
 loadable-entry t e p x h l =
-    let n = getD t 5 0 in
-    let o = getD t 6 0 in
-    let k = u16At t 8 in
+    let n = headInputs t in
+    let o = headOutputs t in
+    let k = headCount t in
     let rows : all k (rowOk t n o k) ≡ true = search (and-left, and-right) in
     let row : rowOk t n o k p ≡ true = all-at k (rowOk t n o k) rows p h in
     let entries : all (2 ^ n) (λ i. entryOk (outputIn t n p i) (nextIn t n p i) o k) ≡ true = search (and-left, and-right) in

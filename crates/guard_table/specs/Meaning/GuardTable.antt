@@ -55,6 +55,22 @@ entryAt inputs place input = rowAt inputs place + (headerSize + entryWidth * inp
 
 -- ---- reading
 
+-- the head's fields
+abbrev pub headMode : List ℕ → ℕ
+headMode t = getD t 4 0
+
+abbrev pub headInputs : List ℕ → ℕ
+headInputs t = getD t 5 0
+
+abbrev pub headOutputs : List ℕ → ℕ
+headOutputs t = getD t 6 0
+
+abbrev pub headHorizon : List ℕ → ℕ
+headHorizon t = getD t 7 0
+
+abbrev pub headCount : List ℕ → ℕ
+headCount t = u16At t 8
+
 -- a record's header has this size and this kind
 unfoldable pub headerIs : List ℕ → ℕ → ℕ → ℕ → Bool
 headerIs t at size kind = eqb (u16At t at) size && eqb (u16At t (at + 2)) kind

@@ -4,11 +4,10 @@ use mathlib.Core.Bool.{Bool, _&&_}
 use mathlib.Core.List.{List}
 use Prim.Native.Nat.{ℕ, _^_}
 use lib.Dec.{ltb, leb, eqb}
-use lib.ListN.{length, getD}
+use lib.ListN.{length}
 use Rattle.records.specs.Meaning.Bounded.{all}
-use Rattle.records.specs.Meaning.Numbers.{u16At}
 use Rattle.records.specs.Meaning.Limits.{maxStates, linesOk, horizonOk}
-use Rattle.guard_table.specs.Meaning.GuardTable.{headKind, rowKind, headSize, headLength, rowSize, tableLength, rowAt, headerIs, outputIn, nextIn}
+use Rattle.guard_table.specs.Meaning.GuardTable.{headKind, rowKind, headSize, rowSize, headLength, tableLength, rowAt, headMode, headInputs, headOutputs, headHorizon, headCount, headerIs, outputIn, nextIn}
 
 -- ---- the head: its kind, its fields in bounds, and the rows fill the rest of the slice exactly
 
@@ -22,7 +21,7 @@ fieldsOk mode inputs outputs horizon count size =
 unfoldable pub tableHeadOk : List ℕ → Bool
 tableHeadOk t =
     leb headLength (length t)
-    && (headerIs t 0 headSize headKind && fieldsOk (getD t 4 0) (getD t 5 0) (getD t 6 0) (getD t 7 0) (u16At t 8) (length t))
+    && (headerIs t 0 headSize headKind && fieldsOk (headMode t) (headInputs t) (headOutputs t) (headHorizon t) (headCount t) (length t))
 
 -- ---- the rows: their kind, and for each input an output below 2^outputs and a next state below count
 
@@ -40,4 +39,4 @@ unfoldable pub rowsOk : List ℕ → ℕ → ℕ → ℕ → Bool
 rowsOk t inputs outputs count = all count (rowOk t inputs outputs count)
 
 unfoldable pub loadable : List ℕ → Bool
-loadable t = tableHeadOk t && rowsOk t (getD t 5 0) (getD t 6 0) (u16At t 8)
+loadable t = tableHeadOk t && rowsOk t (headInputs t) (headOutputs t) (headCount t)

@@ -51,7 +51,8 @@ put-entry-requires : tie.Need-put-entry-requires Inv-loop μ-loop
 put-entry-requires c κs =
     let at = c .before in
     let s = start (turn at) in
-    (rw (found at) (fits-next (entries s) (turn at .loop .i) (2 ^ s .args .inputs) (low (at .before)) (turn at .loop .inv .1) (s .pre .1)), at .entry-in .ensures .1 .1)
+    let room = fits-next (entries s) (turn at .loop .i) (2 ^ s .args .inputs) (low (at .before)) (turn at .loop .inv .1) (s .pre .1) in
+    (rw (found at) room, at .entry-in .ensures .1 .1)
 
 add-i : tie.Need-add-i Inv-loop μ-loop
 add-i c = omega arith
@@ -63,7 +64,9 @@ loop-again : tie.Need-loop-again Inv-loop μ-loop
 loop-again c =
     let done = c .before .before in
     let at = done .before .before in
-    (omega (arith, low (at .before)), piece-more (entries (start (turn at))) (turn at .loop .i) (turn at .loop .inv .1) (put-as (done .put-entry .ensures) (found at)))
+    let t = turn at in
+    let put = put-as (done .put-entry .ensures) (found at) in
+    (omega (arith, low (at .before)), piece-more (entries (start t)) (t .loop .i) (t .loop .inv .1) put)
 
 same-length : tie.Need-same-length Inv-loop μ-loop
 same-length c = put-same (c .before .loop .inv .1)

@@ -19,6 +19,9 @@ abbrev μ-loop : tie.MeasureT-loop
 abbrev entry : tie.At-loop Inv-loop μ-loop → tie.Start Inv-loop μ-loop
 entry c = c .before .before .before
 
+abbrev turn : tie.After-put-row-arg Inv-loop μ-loop → tie.At-loop Inv-loop μ-loop
+turn c = c .before .before
+
 -- the lines
 abbrev rows : tie.Start Inv-loop μ-loop → ℕ → List ℕ
 rows c = rowOf (c .args .table .now) (c .args .inputs)
@@ -27,7 +30,7 @@ loop-holds : tie.Need-loop-holds Inv-loop μ-loop
 loop-holds c = (omega arith, piece-none _ _ _)
 
 put-row-requires : tie.Need-put-row-requires Inv-loop μ-loop
-put-row-requires c κs = let at = c .before .before in
+put-row-requires c κs = let at = turn c in
     let s = entry at in
     let low = c .before .loop-test .taken in
     ((s .pre .0, low), fits-next (rows s) (at .loop .k) (s .args .count) low (at .loop .inv .1) (s .pre .1))
@@ -40,7 +43,7 @@ loop-less c = omega arith
 
 loop-again : tie.Need-loop-again Inv-loop μ-loop
 loop-again c = let done = c .before .before in
-    let at = done .before .before .before in
+    let at = turn (done .before) in
     (omega arith, piece-more (rows (entry at)) (at .loop .k) (at .loop .inv .1) (done .put-row .ensures))
 
 same-length : tie.Need-same-length Inv-loop μ-loop

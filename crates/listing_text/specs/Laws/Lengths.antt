@@ -4,10 +4,10 @@ use mathlib.Core.Path.{_≡_, sym, ap, _∙_}
 use mathlib.Core.List.{List, _∷_, _++_}
 use Prim.Native.Nat.{ℕ, _+_, _^_}
 use native.Mathlib.Omega.{arith}
-use lib.ListN.{length, getD, length-append}
+use lib.ListN.{length, length-append}
 use Rattle.records.specs.Meaning.Lists.{cat}
 use Rattle.records.specs.Laws.Lists.{cat-none, cat-more}
-use Rattle.records.specs.Meaning.Numbers.{u16At}
+use Rattle.guard_table.specs.Meaning.GuardTable.{headInputs, headOutputs, headHorizon, headCount}
 use Rattle.listing_text.specs.Meaning.Listing.{decimal, lineEnd, labelled, headLine, entryText, rowText, refusedText, entryOf, rowOf, listingOf}
 use Rattle.listing_text.specs.Laws.Pieces.{listing-parts}
 
@@ -36,12 +36,12 @@ unfolding headLine labelled
 length-head count inputs outputs horizon = simp length-append (omega arith)
 
 -- of a table whose count was read
-pub length-listing : (t : List ℕ) {count : ℕ} → count ≡ u16At t 8
+pub length-listing : (t : List ℕ) {count : ℕ} → count ≡ headCount t
     → length (listingOf t)
-    ≡ length (headLine count (getD t 5 0) (getD t 6 0) (getD t 7 0)) + length (cat count (rowOf t (getD t 5 0)))
+    ≡ length (headLine count (headInputs t) (headOutputs t) (headHorizon t)) + length (cat count (rowOf t (headInputs t)))
 length-listing t {count} e =
     ap length (sym (listing-parts t e))
-    ∙ length-append (headLine count (getD t 5 0) (getD t 6 0) (getD t 7 0)) (cat count (rowOf t (getD t 5 0)))
+    ∙ length-append (headLine count (headInputs t) (headOutputs t) (headHorizon t)) (cat count (rowOf t (headInputs t)))
 
 pub length-refused : (number : ℕ) → length (refusedText number) ≡ 9 + length (decimal number)
 unfolding refusedText labelled

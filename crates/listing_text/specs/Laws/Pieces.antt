@@ -8,8 +8,7 @@ use lib.ListN.{length, getD, set, length-append}
 use lib.Seq.{sets, length-sets}
 use Rattle.records.specs.Meaning.Lists.{tab, cat}
 use Rattle.records.specs.Laws.Lists.{length-tab, tab-self, cat-none, cat-more, cat-at, sets-append, sets-more}
-use Rattle.records.specs.Meaning.Numbers.{u16At}
-use Rattle.guard_table.specs.Meaning.GuardTable.{outputIn, nextIn}
+use Rattle.guard_table.specs.Meaning.GuardTable.{headInputs, headOutputs, headHorizon, headCount, outputIn, nextIn}
 use Rattle.listing_text.specs.Meaning.Listing.{headLine, entryText, listing, entryOf, rowOf, listingOf}
 use Rattle.listing_text.specs.Model.Put.{Put}
 
@@ -88,7 +87,7 @@ unfolding entryOf
 entry-found t inputs k i e f = rw (e, f)
 
 -- the listing of a table whose count was read: the first line, then the lines of the states
-pub listing-parts : (t : List ℕ) {count : ℕ} → count ≡ u16At t 8
-    → headLine count (getD t 5 0) (getD t 6 0) (getD t 7 0) ++ cat count (rowOf t (getD t 5 0)) ≡ listingOf t
+pub listing-parts : (t : List ℕ) {count : ℕ} → count ≡ headCount t
+    → headLine count (headInputs t) (headOutputs t) (headHorizon t) ++ cat count (rowOf t (headInputs t)) ≡ listingOf t
 unfolding listingOf listing rowOf
 listing-parts t e = rw e

@@ -4,10 +4,8 @@ use mathlib.Core.Bool.{true, false}
 use mathlib.Core.List.{List, [], _∷_, _++_}
 use Prim.Native.Nat.{ℕ, zero, suc, _+_, _/_, _%_, _^_}
 use lib.Dec.{ltb}
-use lib.ListN.{getD}
 use Rattle.records.specs.Meaning.Lists.{cat}
-use Rattle.records.specs.Meaning.Numbers.{u16At}
-use Rattle.guard_table.specs.Meaning.GuardTable.{outputIn, nextIn}
+use Rattle.guard_table.specs.Meaning.GuardTable.{headInputs, headOutputs, headHorizon, headCount, outputIn, nextIn}
 
 -- ---- numbers
 
@@ -91,4 +89,4 @@ rowOf t inputs k = rowText inputs (outputIn t inputs k) (nextIn t inputs k) k
 
 unfoldable pub listingOf : List ℕ → List ℕ
 listingOf t =
-    listing (u16At t 8) (getD t 5 0) (getD t 6 0) (getD t 7 0) (outputIn t (getD t 5 0)) (nextIn t (getD t 5 0))
+    listing (headCount t) (headInputs t) (headOutputs t) (headHorizon t) (outputIn t (headInputs t)) (nextIn t (headInputs t))

@@ -7,15 +7,14 @@ use Prim.Native.Nat.{ℕ, zero, suc, _+_, _*_, _^_, _≤_, _<_}
 use native.Mathlib.Nat.{suc-mul, zero-add}
 use native.Mathlib.Omega.{arith}
 use lib.Dec.{leb}
-use lib.ListN.{length, getD, take, length-append}
+use lib.ListN.{length, take, length-append}
 use lib.Pow.{pow-mono}
 use borrow.Author.Tests.{lt-ltb, le-ltb, le-leb, lt-leb, ltb-true}
 use Rattle.records.specs.Laws.Tests.{and-left, and-right}
 use Rattle.records.specs.Meaning.Lists.{cat}
 use Rattle.records.specs.Laws.Lists.{cat-ext}
-use Rattle.records.specs.Meaning.Numbers.{u16At}
 use Rattle.records.specs.Laws.Limits.{lines-facts, horizon-facts}
-use Rattle.guard_table.specs.Meaning.GuardTable.{headLength, outputIn, nextIn, guardTable}
+use Rattle.guard_table.specs.Meaning.GuardTable.{headLength, headMode, headInputs, headOutputs, headHorizon, headCount, outputIn, nextIn, guardTable}
 use Rattle.guard_table.specs.Laws.GuardTable.{table-head, entry-output, entry-next}
 use Rattle.guard_table.specs.Meaning.Loadable.{loadable, entryOk}
 use Rattle.guard_table.specs.Laws.LoadableFacts.{loadable-head, loadable-sized, loadable-entry}
@@ -116,40 +115,40 @@ head-most count inputs outputs horizon a b c d =
     )
 
 -- the outputs and next states of a loadable table are small
-entries-small : (t : List ℕ) → loadable t ≡ true → (k i : ℕ) → k < u16At t 8 → i < 2 ^ getD t 5 0
-    → (outputIn t (getD t 5 0) k i < 10) × (nextIn t (getD t 5 0) k i < 1000)
+entries-small : (t : List ℕ) → loadable t ≡ true → (k i : ℕ) → k < headCount t → i < 2 ^ headInputs t
+    → (outputIn t (headInputs t) k i < 10) × (nextIn t (headInputs t) k i < 1000)
 unfolding entryOk
 entries-small t e k i h l =
     let head = loadable-head t e in
-    let lines = lines-facts (getD t 4 0) (getD t 5 0) (getD t 6 0) (head .lines) in
+    let lines = lines-facts (headMode t) (headInputs t) (headOutputs t) (head .lines) in
     let ok = loadable-entry t e k i h l in
-    let outs : 2 ^ getD t 6 0 ≤ 8 = pow-mono {j = 3} (lines .outputs-most) in
-    let o = outputIn t (getD t 5 0) k i in
-    let n = nextIn t (getD t 5 0) k i in
-    let out : o < 2 ^ getD t 6 0 = ltb-true o (2 ^ getD t 6 0) (search and-left) in
-    let next : n < u16At t 8 = ltb-true n (u16At t 8) (search (and-left, and-right)) in
+    let outs : 2 ^ headOutputs t ≤ 8 = pow-mono {j = 3} (lines .outputs-most) in
+    let o = outputIn t (headInputs t) k i in
+    let n = nextIn t (headInputs t) k i in
+    let out : o < 2 ^ headOutputs t = ltb-true o (2 ^ headOutputs t) (search and-left) in
+    let next : n < headCount t = ltb-true n (headCount t) (search (and-left, and-right)) in
     (omega arith, omega (arith, head .count-most))
 
 pub listing-most : (t : List ℕ) → loadable t ≡ true → length (listingOf t) ≤ textLength
 listing-most t e =
     let head = loadable-head t e in
-    let inputs = getD t 5 0 in
-    let lines = lines-facts (getD t 4 0) inputs (getD t 6 0) (head .lines) in
-    let far = horizon-facts inputs (getD t 7 0) (head .horizon) in
+    let inputs = headInputs t in
+    let lines = lines-facts (headMode t) inputs (headOutputs t) (head .lines) in
+    let far = horizon-facts inputs (headHorizon t) (head .horizon) in
     let rows =
-    cat-most (u16At t 8) 101 (rowOf t inputs)
+    cat-most (headCount t) 101 (rowOf t inputs)
     (λ k h. row-most t inputs k (lines .inputs-most) (omega (arith, head .count-most)) (λ i l. entries-small t e k i h l)) in
     omega (
       arith,
       rows,
       head .count-most,
       length-listing t refl,
-      head-most (u16At t 8) inputs (getD t 6 0) (getD t 7 0) (omega (arith, head .count-most)) (omega (arith, lines .inputs-most))
+      head-most (headCount t) inputs (headOutputs t) (headHorizon t) (omega (arith, head .count-most)) (omega (arith, lines .inputs-most))
           (omega (arith, lines .outputs-most)) (omega (arith, far .most)),
     )
 
 -- a loadable table has a head, and is as long as it says
-pub loadable-filled : (t : List ℕ) → loadable t ≡ true → (headLength ≤ length t) × Sized t (getD t 5 0) (u16At t 8)
+pub loadable-filled : (t : List ℕ) → loadable t ≡ true → (headLength ≤ length t) × Sized t (headInputs t) (headCount t)
 loadable-filled t e = (loadable-head t e .long, loadable-sized t e)
 
 -- the numbers of refusals are small

@@ -12,6 +12,7 @@ use borrow.Author.Needs.{needs}
 use Rattle.rounds.proofs.cell_leads.Statement.{statement}
 use Rattle.rounds.proofs.cell_leads.Tie as tie
 
+-- the place that the needs look back to
 abbrev entry : tie.Else1 → tie.Start
 entry c = c .before .before .before .before .before
 
@@ -44,11 +45,11 @@ shared-slice-read-dropped-by : tie.Need-shared-slice-read-dropped-by
 shared-slice-read-dropped-by c = target (c .before)
 
 returns-2 : tie.Need-returns-2
-returns-2 c = leads-back _ _ _ _ (unbroken (c .before .before)) (target (c .before .before)) (c .if2 .taken)
+returns-2 c = let at = c .before .before in leads-back _ _ _ _ (unbroken at) (target at) (c .if2 .taken)
 
 returns-3 : tie.Need-returns-3
 unfolding isIn
-returns-3 c = leads-else _ _ _ _ (unbroken (c .before .before)) (target (c .before .before)) (c .if2 .left)
+returns-3 c = let at = c .before .before in leads-else _ _ _ _ (unbroken at) (target at) (c .if2 .left)
 
 pub cell-leads-spec : {M : Type 1} → statement M
 cell-leads-spec =

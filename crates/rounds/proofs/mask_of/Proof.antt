@@ -22,14 +22,17 @@ abbrev μ-loop : tie.MeasureT-loop
 abbrev entry : tie.In-loop Inv-loop μ-loop → tie.Start Inv-loop μ-loop
 entry c = c .before .before .before .before .before .before
 
+abbrev turn : tie.After-leads-to-kept Inv-loop μ-loop → tie.In-loop Inv-loop μ-loop
+turn c = c .before .before
+
 -- the test of output o, as the calls answered it
 allowed : (c : tie.After-leads-to-kept Inv-loop μ-loop) {b : Bool} → c .leads-to-kept .result ≡ b →
-    let at = c .before .before in
+    let at = turn c in
     let a = entry at .args in
     allows (a .cells .now) (a .dropped .now) (a .ins) (a .outs) (a .k) (a .i) (at .before .loop .o) ≡ b
 unfolding allows
 allowed c e =
-    let passed = c .before .before .before .before in
+    let passed = turn c .before .before in
     rw (said-yes (passed .before .is-kept .ensures) (passed .if1 .left), ← c .before .cell-at .ensures)
     (said (c .leads-to-kept .ensures) e)
 
@@ -56,7 +59,7 @@ shl-mask : tie.Need-shl-mask Inv-loop μ-loop
 shl-mask c = omega arith
 
 add-mask : tie.Need-add-mask Inv-loop μ-loop
-add-mask c = omega (arith, fits (c .before .before .before .before .loop .inv) (omega arith))
+add-mask c = omega (arith, fits (turn (c .before) .before .loop .inv) (omega arith))
 
 add-o : tie.Need-add-o Inv-loop μ-loop
 add-o c = omega arith
@@ -66,7 +69,7 @@ loop-less c = omega arith
 
 loop-again : tie.Need-loop-again Inv-loop μ-loop
 loop-again c =
-    let inv = c .before .before .before .before .loop .inv in
+    let inv = turn (c .before) .before .loop .inv in
     ⊎-elim (λ w. bit-on inv (omega arith) (omega arith) (allowed (c .before) (w .0 .taken)) (w .1))
     (λ w. bit-off inv (omega arith) (allowed (c .before) (w .0 .left)) (w .1)) (c .if2 .came)
 

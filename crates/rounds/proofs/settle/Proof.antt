@@ -11,6 +11,9 @@ abbrev μ-loop : tie.MeasureT-loop
 μ-loop cells dropped₀ n ins outs kept₀ made₀ dropped kept made = kept
 
 -- the places that the needs look back to
+abbrev cleared : tie.After-slice-known2 Inv-loop μ-loop → tie.After-clear-front16 Inv-loop μ-loop
+cleared c = c .before .before
+
 abbrev entry : tie.After-slice-known2 Inv-loop μ-loop → tie.Start Inv-loop μ-loop
 entry c = c .before .before .before .before .before .before
 
@@ -19,14 +22,14 @@ head c = c .before .before .before .before
 
 -- the loop begins with all states in, and has made a round more
 begun : (c : tie.After-slice-known2 Inv-loop μ-loop) →
-    Began (entry c .args .n) (entry c .args .dropped .now) (c .before .before .clear-front16 .last .0)
-begun c = record { room = entry c .pre .1 .0; cleared = c .before .before .clear-front16 .ensures }
+    Began (entry c .args .n) (entry c .args .dropped .now) (cleared c .clear-front16 .last .0)
+begun c = record { room = entry c .pre .1 .0; cleared = cleared c .clear-front16 .ensures }
 
 turned : (c : tie.After-slice-known3 Inv-loop μ-loop) →
     let a = entry (head c .before) .args in
     let at = head c .loop in
     let made = c .before .before .one-round in
-    Turned (a .cells .now) (a .n) (a .ins) (a .outs) (a .dropped .now) (head c .before .before .before .clear-front16 .last .0)
+    Turned (a .cells .now) (a .n) (a .ins) (a .outs) (a .dropped .now) (cleared (head c .before) .clear-front16 .last .0)
     (at .dropped) (made .last .1 .0) (at .kept) (at .made) (made .result)
 turned c = record { began = begun (head c .before); inv = head c .loop .inv; turn = c .before .before .one-round .ensures }
 
@@ -41,8 +44,9 @@ add-one-round c = omega (arith, c .before .loop .inv .enough)
 
 one-round-requires : tie.Need-one-round-requires Inv-loop μ-loop
 one-round-requires c κs =
-    let b = begun (c .before .before) in
-    (entry (c .before .before) .pre .0, (room-now b (c .before .loop .inv), low b (c .before .loop .inv)))
+    let at = c .before .before in
+    let b = begun at in
+    (entry at .pre .0, (room-now b (c .before .loop .inv), low b (c .before .loop .inv)))
 
 sub-kept : tie.Need-sub-kept Inv-loop μ-loop
 sub-kept c = omega (arith, lost-most (turned (c .before)))

@@ -37,9 +37,12 @@ entry c = c .before .before .before .before .before .before
 abbrev input : tie.In-search Inv-search μ-search Inv-inputs μ-inputs → tie.At-inputs Inv-search μ-search Inv-inputs μ-inputs
 input c = c .before .before .before
 
+abbrev turn : tie.After-cell-leads Inv-search μ-search Inv-inputs μ-inputs → tie.In-search Inv-search μ-search Inv-inputs μ-inputs
+turn c = c .before .before
+
 -- what the search saw at its cell
 looked : (c : tie.After-cell-leads Inv-search μ-search Inv-inputs μ-inputs) {b : Bool} → c .cell-leads .result ≡ b →
-    let at = c .before .before in
+    let at = turn c in
     let a = entry at .args in
     leadsIn (a .cells .now) (atStart (a .round) (a .dropped .now))
     (cellAt (a .ins) (a .outs) (a .k) (input at .inputs .i) (at .before .search .o))
@@ -66,7 +69,7 @@ search-less : tie.Need-search-less Inv-search μ-search Inv-inputs μ-inputs
 search-less c = omega arith
 
 search-again : tie.Need-search-again Inv-search μ-search Inv-inputs μ-inputs
-search-again c = (omega arith, below-more _ _ (c .before .before .before .before .search .inv .1) (looked (c .before) (c .if1 .left)))
+search-again c = (omega arith, below-more _ _ (turn (c .before) .before .search .inv .1) (looked (c .before) (c .if1 .left)))
 
 add-i : tie.Need-add-i Inv-search μ-search Inv-inputs μ-inputs
 add-i c = omega arith
@@ -78,7 +81,7 @@ inputs-again : tie.Need-inputs-again Inv-search μ-search Inv-inputs μ-inputs
 unfolding answered
 inputs-again c = (
   omega arith,
-  all-more _ _ (input (c .before .before .before) .inputs .inv .1)
+  all-more _ _ (input (turn (c .before)) .inputs .inv .1)
       (any-of _ _ _ (omega arith) (looked (c .before) (c .if1 .taken))),
 )
 

@@ -10,8 +10,12 @@ use borrow.Author.Needs.{needs}
 use Rattle.board.proofs.Board.load.Statement.{statement}
 use Rattle.board.proofs.Board.load.Tie as tie
 
+-- the place that the needs look back to
+abbrev start : tie.Else1 → tie.Start
+start c = c .before .before .before
+
 -- the board counts as empty past the first test
-idle : (c : tie.Else1) → live (c .before .before .before .args .self) ≡ false
+idle : (c : tie.Else1) → live (start c .args .self) ≡ false
 idle c = said (c .before .is-live .ensures) (c .if1 .left)
 
 is-live-requires : tie.Need-is-live-requires

@@ -63,7 +63,8 @@ entry-in-requires c κs =
     let at = c .before in
     let s = start (at .before .before) in
     let h = facts s in
-    entry-inside (row-inside (lines s .inputs-most) (h .count-most) (omega (arith, at .before .table-length .ensures)) (h .place)) (s .pre .1)
+    entry-inside (row-inside (lines s .inputs-most) (h .count-most) (omega (arith, at .before .table-length .ensures)) (h .place))
+    (s .pre .1)
 
 entry-ok-requires : tie.Need-entry-ok-requires
 entry-ok-requires c κs = lines (entry c) .outputs-most

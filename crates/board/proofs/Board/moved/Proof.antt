@@ -9,6 +9,10 @@ use borrow.Author.Needs.{needs}
 use Rattle.board.proofs.Board.moved.Statement.{statement}
 use Rattle.board.proofs.Board.moved.Tie as tie
 
+-- the place that the needs look back to
+abbrev start : tie.After-struct-known → tie.Start
+start c = c .before .before .before
+
 facts : (c : tie.Start) → Live (c .args .self)
 facts c = live-facts (c .args .self) (c .pre)
 
@@ -19,7 +23,7 @@ add-deviations : tie.Need-add-deviations
 add-deviations c = let h = facts (c .before .before) in omega arith
 
 add-run-at : tie.Need-add-run-at
-add-run-at c = let h = facts (c .before .before .before) in omega arith
+add-run-at c = let h = facts (start c) in omega arith
 
 run-at-requires : tie.Need-run-at-requires
 run-at-requires c κs = search needs
@@ -30,10 +34,11 @@ of-requires c κs = search needs
 returns : tie.Need-returns
 unfolding boardMoved
 returns c = let r = c .before in
-    let told = r .before .before .before .deviates .ensures in
+    let joined = r .before .before in
+    let told = joined .before .deviates .ensures in
     ⊎-elim (λ w. simp (c .of .ensures, r .run-at .ensures, w .1, said told (w .0 .taken)))
     (λ w. simp (c .of .ensures, r .run-at .ensures, w .1, said told (w .0 .left), add-zero))
-    (r .before .before .if1 .came)
+    (joined .if1 .came)
 
 pub moved-spec : {M : Type 1} → statement M
 moved-spec =

@@ -16,12 +16,9 @@ use borrow.Author.Needs.{needs}
 use Rattle.board.proofs.Board.step.Statement.{statement}
 use Rattle.board.proofs.Board.step.Tie as tie
 
--- past each test but the last: the board is live, has steps left, and the input is in range
+-- the places that the needs look back to
 abbrev start : tie.Else1 → tie.Start
 start c = c .before .before .before
-
-alive : (c : tie.Else1) → live (start c .args .self) ≡ true
-alive c = said-yes (c .before .is-live .ensures) (c .if1 .left)
 
 abbrev first : tie.Else2 → tie.Else1
 first c = c .before .before
@@ -29,17 +26,31 @@ first c = c .before .before
 abbrev entry : tie.Else2 → tie.Start
 entry c = start (first c)
 
+abbrev second : tie.Else3 → tie.Else2
+second c = c .before .before
+
+-- the same, where the next test refuses
+abbrev first-spent : tie.Then2 → tie.Else1
+first-spent c = c .before .before
+
+abbrev second-strange : tie.Then3 → tie.Else2
+second-strange c = c .before .before
+
+-- past each test: the board is live, has steps left, and the input is in range
+alive : (c : tie.Else1) → live (start c .args .self) ≡ true
+alive c = said-yes (c .before .is-live .ensures) (c .if1 .left)
+
 room : (c : tie.Else2) → leb maxSteps (entry c .args .self .steps) ≡ false
 room c = search cases
 
-letter : (c : tie.Else3) → ltb (entry (c .before .before) .args .input) (2 ^ entry (c .before .before) .args .self .inputs) ≡ true
+letter : (c : tie.Else3) → ltb (entry (second c) .args .input) (2 ^ entry (second c) .args .self .inputs) ≡ true
 letter c = search (cases, ← c .before .pow2 .ensures)
 
 -- the tests that refuse
-spent : (c : tie.Then2) → leb maxSteps (start (c .before .before) .args .self .steps) ≡ true
+spent : (c : tie.Then2) → leb maxSteps (start (first-spent c) .args .self .steps) ≡ true
 spent c = search cases
 
-stranger : (c : tie.Then3) → ltb (entry (c .before .before) .args .input) (2 ^ entry (c .before .before) .args .self .inputs) ≡ false
+stranger : (c : tie.Then3) → ltb (entry (second-strange c) .args .input) (2 ^ entry (second-strange c) .args .self .inputs) ≡ false
 stranger c = search (cases, ← c .before .pow2 .ensures)
 
 is-live-requires : tie.Need-is-live-requires
@@ -59,7 +70,7 @@ of-requires-2 c κs = search needs
 returns-2 : tie.Need-returns-2
 unfolding stepOn
 returns-2 c =
-    step-promise _ _ _ _ (simp (c .of2 .ensures, alive (c .before .before .before), spent (c .before)))
+    step-promise _ _ _ _ (simp (c .of2 .ensures, alive (first-spent (c .before)), spent (c .before)))
 
 pow2-requires : tie.Need-pow2-requires
 pow2-requires c κs = let h = lines-facts _ _ _ (live-facts _ (alive (first c)) .lines) in
@@ -71,16 +82,16 @@ of-requires-3 c κs = search needs
 returns-3 : tie.Need-returns-3
 unfolding stepOn
 returns-3 c =
-    let d = c .before .before .before in
+    let d = second-strange (c .before) in
     step-promise _ _ _ _ (simp (c .of3 .ensures, alive (first d), room d, stranger (c .before)))
 
 look-up-requires : tie.Need-look-up-requires
-look-up-requires c κs = (alive (first (c .before .before)), ltb-true _ _ (letter c))
+look-up-requires c κs = (alive (first (second c)), ltb-true _ _ (letter c))
 
 returns-4 : tie.Need-returns-4
 unfolding stepOn
 returns-4 c =
-    let d = c .before .before .before in
+    let d = second (c .before) in
     step-promise _ _ _ _ (simp (alive (first d), room d, letter (c .before)) (c .look-up .ensures))
 
 pub step-spec : {M : Type 1} → statement M

@@ -4,6 +4,10 @@ use borrow.Author.Needs.{needs}
 use Rattle.board_bytes.proofs.layout.board_in.Statement.{statement}
 use Rattle.board_bytes.proofs.layout.board_in.Tie as tie
 
+-- the place that the need looks back to
+abbrev counted : tie.After-u32-at2 → tie.After-u16-at
+counted c = c .before .before .before
+
 shared-slice-read-t3 : tie.Need-shared-slice-read-t3
 shared-slice-read-t3 c = search needs
 
@@ -31,7 +35,7 @@ u32-at-requires-2 c κs = search needs
 returns : tie.Need-returns
 unfolding boardIn
 returns c =
-    simp (c .before .before .before .u16-at .ensures, c .before .before .u16-at2 .ensures, c .before .u32-at .ensures, c .u32-at2 .ensures)
+    simp (counted c .u16-at .ensures, c .before .before .u16-at2 .ensures, c .before .u32-at .ensures, c .u32-at2 .ensures)
 
 pub board-in-spec : {M : Type 1} → statement M
 board-in-spec =

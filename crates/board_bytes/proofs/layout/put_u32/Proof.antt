@@ -6,6 +6,13 @@ use borrow.Author.Needs.{needs}
 use Rattle.board_bytes.proofs.layout.put_u32.Statement.{statement}
 use Rattle.board_bytes.proofs.layout.put_u32.Tie as tie
 
+-- the places that the need looks back to
+abbrev entry : tie.After-put-u16 → tie.Start
+entry c = c .before .before .before
+
+abbrev first : tie.After-put-u162 → tie.After-put-u16
+first c = c .before .before .before .before
+
 cast-put-u16 : tie.Need-cast-put-u16
 cast-put-u16 c = search needs
 
@@ -27,9 +34,8 @@ same-length c = search needs
 returns : tie.Need-returns
 returns c =
     let second = c .before .before in
-    let first = second .before .before .before .before in
-    let a = first .before .before .before .args in
-    rw (second .put-u162 .ensures, first .put-u16 .ensures)
+    let a = entry (first second) .args in
+    rw (second .put-u162 .ensures, first second .put-u16 .ensures)
     (sets-append (a .out .now) (a .at) (u16Bytes (a .value % 65536)) (u16Bytes (a .value / 65536)))
 
 pub put-u32-spec : {M : Type 1} → statement M

@@ -48,7 +48,8 @@ loop-holds : tie.Need-loop-holds Inv-loop μ-loop
 loop-holds c = (omega arith, (sym (length-none _), omega arith))
 
 entry-in-requires : tie.Need-entry-in-requires Inv-loop μ-loop
-entry-in-requires c κs = let s = start (c .before) in entry-inside (sized-row (s .pre .0) (s .pre .1)) (omega (arith, c .before .before .pow2 .ensures))
+entry-in-requires c κs = let s = start (c .before) in
+    entry-inside (sized-row (s .pre .0) (s .pre .1)) (omega (arith, c .before .before .pow2 .ensures))
 
 entry-length-requires : tie.Need-entry-length-requires Inv-loop μ-loop
 entry-length-requires c κs = search needs

@@ -5,6 +5,10 @@ use Rattle.listing_text.specs.Laws.Lengths.{length-entry}
 use Rattle.listing_text.proofs.lengths.entry_length.Statement.{statement}
 use Rattle.listing_text.proofs.lengths.entry_length.Tie as tie
 
+-- the place that the need looks back to
+abbrev start : tie.After-number-length2 → tie.Start
+start c = c .before .before .before .before
+
 cast-number-length : tie.Need-cast-number-length
 cast-number-length c = search needs
 
@@ -24,7 +28,7 @@ add-result-2 : tie.Need-add-result-2
 add-result-2 c = search needs
 
 returns : tie.Need-returns
-returns c = let s = c .before .before .before .before in omega (arith, length-entry (s .args .entry .output) (s .args .entry .next))
+returns c = let e = start c .args .entry in omega (arith, length-entry (e .output) (e .next))
 
 pub entry-length-spec : {M : Type 1} → statement M
 entry-length-spec =

@@ -5,6 +5,10 @@ use borrow.Author.Needs.{needs}
 use Rattle.listing_text.proofs.lengths.head_length.Statement.{statement}
 use Rattle.listing_text.proofs.lengths.head_length.Tie as tie
 
+-- the place that the need looks back to
+abbrev start : tie.After-number-length4 → tie.Start
+start c = c .before .before .before .before
+
 number-length-requires : tie.Need-number-length-requires
 number-length-requires c κs = search needs
 
@@ -30,8 +34,7 @@ add-result-4 : tie.Need-add-result-4
 add-result-4 c = search needs
 
 returns : tie.Need-returns
-returns c =
-    let a = c .before .before .before .before .args in
+returns c = let a = start c .args in
     omega (arith, length-head (a .count) (a .inputs) (a .outputs) (a .horizon))
 
 pub head-length-spec : {M : Type 1} → statement M

@@ -5,9 +5,12 @@ use borrow.Author.Needs.{needs}
 use Rattle.listing_text.proofs.lengths.listing_length.Statement.{statement}
 use Rattle.listing_text.proofs.lengths.listing_length.Tie as tie
 
--- the place that the needs look back to
+-- the places that the needs look back to
 abbrev start : tie.After-u16-at → tie.Start
 start c = c .before .before .before
+
+abbrev counted : tie.After-head-length → tie.After-u16-at
+counted c = c .before .before .before
 
 shared-slice-read-inputs : tie.Need-shared-slice-read-inputs
 shared-slice-read-inputs c = search needs
@@ -28,13 +31,13 @@ head-length-requires : tie.Need-head-length-requires
 head-length-requires c κs = search needs
 
 rows-length-requires : tie.Need-rows-length-requires
-rows-length-requires c κs = let at = c .before .before .before in rw (at .u16-at .ensures) (start at .pre .1)
+rows-length-requires c κs = let at = counted c in rw (at .u16-at .ensures) (start at .pre .1)
 
 add-result : tie.Need-add-result
 add-result c = search needs
 
 returns : tie.Need-returns
-returns c = let at = c .before .before .before .before in omega (arith, length-listing (start at .args .table .now) (at .u16-at .ensures))
+returns c = let at = counted (c .before) in omega (arith, length-listing (start at .args .table .now) (at .u16-at .ensures))
 
 pub listing-length-spec : {M : Type 1} → statement M
 listing-length-spec =

@@ -5,6 +5,10 @@ use borrow.Author.Needs.{needs}
 use Rattle.listing_text.proofs.lengths.row_length.Statement.{statement}
 use Rattle.listing_text.proofs.lengths.row_length.Tie as tie
 
+-- the place that the need looks back to
+abbrev start : tie.After-entries-length → tie.Start
+start c = c .before .before .before
+
 number-length-requires : tie.Need-number-length-requires
 number-length-requires c κs = search needs
 
@@ -18,7 +22,7 @@ add-result-2 : tie.Need-add-result-2
 add-result-2 c = search needs
 
 returns : tie.Need-returns
-returns c = let a = c .before .before .before .args in omega (arith, length-row-text (a .table .now) (a .inputs) (a .k))
+returns c = let a = start c .args in omega (arith, length-row-text (a .table .now) (a .inputs) (a .k))
 
 pub row-length-spec : {M : Type 1} → statement M
 row-length-spec =

@@ -15,8 +15,11 @@ use Rattle.report.proofs.Report.refused.Tie as tie
 abbrev start : tie.After-number-length → tie.Start
 start c = c .before .before
 
-abbrev enough : tie.After-put-labelled → tie.Else1
-enough c = c .before .before .before
+abbrev enough : tie.After-put-labelled-arg2 → tie.Else1
+enough c = c .before .before
+
+abbrev worded : tie.After-put-byte-arg → tie.After-put-labelled
+worded c = c .before .before .before
 
 -- past the test the line fits
 room : (c : tie.Else1) → length (refusedText (start (c .before) .args .number)) ≤ length (start (c .before) .args .text .now)
@@ -36,13 +39,13 @@ slice-aggregate-put-labelled c = search needs
 
 put-labelled-requires : tie.Need-put-labelled-requires
 unfolding refusedText
-put-labelled-requires c κs = let at = c .before .before in
+put-labelled-requires c κs = let at = enough c in
     (omega arith, omega (arith, room at, length-append (labelled refusedWord (start (at .before) .args .number)) lineEnd))
 
 put-byte-requires : tie.Need-put-byte-requires
 unfolding refusedText
-put-byte-requires c κs = let at = c .before .before .before in
-    omega (arith, fits-rest (at .put-labelled .ensures) lineEnd (omega (arith, room (enough at))))
+put-byte-requires c κs = let at = worded c in
+    omega (arith, fits-rest (at .put-labelled .ensures) lineEnd (omega (arith, room (enough (at .before)))))
 
 same-length : tie.Need-same-length
 same-length c = search needs
@@ -50,8 +53,8 @@ same-length c = search needs
 returns-2 : tie.Need-returns-2
 unfolding refusedText
 returns-2 c = let at = c .before .before in
-    let done = at .before .before .before .before in
-    writes-text refl (put-then (done .put-labelled .ensures) (at .put-byte .ensures)) (room (enough done))
+    let done = worded (at .before) in
+    writes-text refl (put-then (done .put-labelled .ensures) (at .put-byte .ensures)) (room (enough (done .before)))
 
 pub refused-spec : {M : Type 1} → statement M
 refused-spec =
