@@ -6,10 +6,9 @@ use records::numbers::pow2;
 use records::numbers::u16_at;
 ghost use mathlib.Core.Path.{_≡_};
 ghost use Prim.Native.Nat.{_^_, _≤_, _<_};
-ghost use lib.ListN.{length, getD};
+ghost use lib.ListN.{length};
 ghost use Rattle.records.specs.Meaning.Lists.{cat};
-ghost use Rattle.records.specs.Meaning.Numbers.{u16At};
-ghost use Rattle.guard_table.specs.Meaning.GuardTable.{headLength, nextEnd};
+ghost use Rattle.guard_table.specs.Meaning.GuardTable.{headLength, headInputs, headCount, nextEnd};
 ghost use Rattle.guard_table.specs.Model.Inside.{Sized};
 ghost use Rattle.listing_text.specs.Meaning.Listing.{decimal, headLine, entryText, entryOf, rowOf, listingOf};
 
@@ -87,7 +86,7 @@ pub fn head_length(count: usize, inputs: u8, outputs: u8, horizon: u8) -> usize
 
 // The listing of a table.
 pub fn listing_length(table: &[u8]) -> usize
-    requires { ⌜ (headLength ≤ length (now table)) × Sized (now table) (getD (now table) 5 0) (u16At (now table) 8) ⌝ }
+    requires { ⌜ (headLength ≤ length (now table)) × Sized (now table) (headInputs (now table)) (headCount (now table)) ⌝ }
     ensures { λ r. ⌜ r ≡ length (listingOf (now (table .entry))) ⌝ }
 {
     let inputs = table[Layout::INPUTS];

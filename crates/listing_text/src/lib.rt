@@ -9,10 +9,9 @@ use records::numbers::u16_at;
 ghost use mathlib.Core.Path.{_≡_};
 ghost use mathlib.Core.List.{[], _∷_};
 ghost use Prim.Native.Nat.{_+_, _^_, _≤_, _<_};
-ghost use lib.ListN.{length, getD};
+ghost use lib.ListN.{length};
 ghost use Rattle.records.specs.Meaning.Lists.{cat};
-ghost use Rattle.records.specs.Meaning.Numbers.{u16At};
-ghost use Rattle.guard_table.specs.Meaning.GuardTable.{headLength, nextEnd};
+ghost use Rattle.guard_table.specs.Meaning.GuardTable.{headLength, headInputs, headCount, nextEnd};
 ghost use Rattle.guard_table.specs.Model.Inside.{Sized};
 ghost use Rattle.listing_text.specs.Meaning.Listing.{decimal, labelled, headLine, entryText, entryOf, rowOf, listingOf};
 ghost use Rattle.listing_text.specs.Model.Put.{Put};
@@ -156,7 +155,7 @@ pub fn put_head(text: &mut [u8], count: usize, inputs: u8, outputs: u8, horizon:
 
 // The listing of a table.
 pub fn put_listing(text: &mut [u8], table: &[u8]) -> usize
-    requires { ⌜ (headLength ≤ length (now table)) × Sized (now table) (getD (now table) 5 0) (u16At (now table) 8) ⌝ }
+    requires { ⌜ (headLength ≤ length (now table)) × Sized (now table) (headInputs (now table)) (headCount (now table)) ⌝ }
     requires { ⌜ length (listingOf (now table)) ≤ length (now text) ⌝ }
     ensures { λ r. ⌜ Put (now (text .entry)) 0 (listingOf (now (table .entry))) r (now (text .exit)) ⌝ }
 {
