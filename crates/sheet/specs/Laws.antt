@@ -6,7 +6,6 @@ pub mod Turns
 pub mod Judged
 pub mod Placed
 pub mod Sound
-pub mod Once
 pub mod LayoutFacts
 pub mod MonitorBytes
 pub mod Complete

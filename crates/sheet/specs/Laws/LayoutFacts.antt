@@ -8,11 +8,11 @@ use lib.ListN.{length, getD}
 use lib.Arith.{digits-lt}
 use borrow.Author.Tests.{eq-eqb, ne-eqb}
 use Rattle.records.specs.Laws.Lists.{getD-tab}
+use Rattle.records.specs.Laws.Pigeonhole.{onto}
 use Rattle.records.specs.Meaning.Limits.{maxInputs, maxOutputs, maxLines, maxHorizon, maxMonitorStates, literalEnd}
 use Rattle.sheet.specs.Meaning.Decoded.{monitorOf, guardLines, inputLines, letters, MonitorOk}
 use Rattle.sheet.specs.Model.Where.{width, automaton, placed, decoded, Fits}
 use Rattle.sheet.specs.Laws.Placed
-use Rattle.sheet.specs.Laws.Once.{onto}
 use Rattle.sheet.specs.declared.layout.Sheet.{Sheet}
 
 -- ---- the head
