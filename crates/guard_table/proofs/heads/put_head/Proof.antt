@@ -10,6 +10,13 @@ use borrow.Author.Needs.{needs}
 use Rattle.guard_table.proofs.heads.put_head.Statement.{statement}
 use Rattle.guard_table.proofs.heads.put_head.Tie as tie
 
+-- the places that the needs look back to
+abbrev headed : tie.After-slice-known3 → tie.After-put-header
+headed c = c .before .before .before .before .before .before
+
+abbrev entry : tie.After-put-header → tie.Start
+entry c = c .before .before .before
+
 put-header-requires : tie.Need-put-header-requires
 put-header-requires c κs = search needs
 
@@ -29,10 +36,11 @@ put-u16-requires : tie.Need-put-u16-requires
 put-u16-requires c κs = simp length-set (omega arith)
 
 returns : tie.Need-returns
-returns c = rw (c .before .before .put-u16 .ensures, c .before .before .before .before .before .before .put-header .ensures)
+returns c = rw (c .before .before .put-u16 .ensures, headed c .put-header .ensures)
 
 same-length : tie.Need-same-length
-same-length c = let a = c .before .before .before .before .before .before .before .before .before .args in
+same-length c =
+    let a = entry (headed c) .args in
     ap length (returns c)
     ∙ length-sets (a .result .now) 0 (header 6 16 ++ (a .mode ∷ a .inputs ∷ a .outputs ∷ a .horizon ∷ u16Bytes (a .count)))
 
