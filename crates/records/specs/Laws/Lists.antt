@@ -63,6 +63,10 @@ put-suc (x ∷ d) (suc i) f = ap (λ (t : List ℕ). f 0 ∷ t) (put-suc d i (λ
 pub put-more : (d : List ℕ) (i : ℕ) (f : ℕ → ℕ) → set (put d i f) i (f i) ≡ put d (i + 1) f
 put-more d i f = rw add-one (put-suc d i f)
 
+-- one more element of a front
+pub put-next : (d : List ℕ) (i : ℕ) (f : ℕ → ℕ) {now : List ℕ} {x : ℕ} → now ≡ put d i f → x ≡ f i → set now i x ≡ put d (i + 1) f
+put-next d i f e g = rw (e, g) (put-more d i f)
+
 pub length-put : (d : List ℕ) (n : ℕ) (f : ℕ → ℕ) → length (put d n f) ≡ length d
 unfolding put
 length-put [] n f = refl
