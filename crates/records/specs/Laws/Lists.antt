@@ -146,7 +146,9 @@ module _ {ℓ} {A : Type ℓ} (c : ℕ) where
   getD-cat (suc n) f e k j d h l =
       let size : length (cat n f) ≡ n * c = length-cat n f (λ i u. e i (omega arith)) in
       cases-suc k n h
-      (λ u. List·getD-append (cat n f) (f n) d (k * c + j) (rw size (lib.Arith.digits-lt u l)) ∙ getD-cat n f (λ i v. e i (omega arith)) k j d u l)
+      (λ u.
+      List·getD-append (cat n f) (f n) d (k * c + j) (rw size (lib.Arith.digits-lt u l))
+      ∙ getD-cat n f (λ i v. e i (omega arith)) k j d u l)
       (λ u. rw (u, ← size) (getD-append-add (cat n f) (f n) j d))
 
 -- what holds of every element of every block

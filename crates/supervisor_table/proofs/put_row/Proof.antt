@@ -1,9 +1,7 @@
 -- `supervisor_table::put_row`: the header, the kept byte and the masks, one after the other. Assumes nothing.
-use mathlib.Core.Path.{ap, _∙_}
+use mathlib.Core.Path.{_∙_}
 use Prim.Native.Nat.{_+_}
-use native.Mathlib.Omega.{arith}
-use lib.ListN.{length, length-set}
-use lib.Seq.{length-sets}
+use lib.ListN.{length-set}
 use Rattle.records.specs.Meaning.Lists.{tab}
 use Rattle.rounds.specs.Model.TableRounds.{maskOf}
 use Rattle.supervisor_table.specs.Model.MaskRows.{keptFlag, tableRow}
@@ -46,6 +44,9 @@ add-put-masks c = search needs
 put-masks-requires : tie.Need-put-masks-requires
 put-masks-requires c κs = (entry (headed (c .before)) .pre .0, simp length-set (search needs))
 
+same-length : tie.Need-same-length
+same-length c = c .before .before .put-masks .kept .0 ∙ simp length-set (headed (marked c) .put-header .kept .0)
+
 returns : tie.Need-returns
 unfolding tableRow
 returns c =
@@ -54,12 +55,6 @@ returns c =
     whole-record (a .result .now) (a .at) (1 + a .ins) 18 (keptFlag (a .dropped .now) (a .k))
     (tab (a .ins) (maskOf (a .cells .now) (a .dropped .now) (a .ins) (a .outs) (a .k)))
     (at .put-header .ensures) (marked c .kept-flag .ensures) (c .before .before .put-masks .ensures)
-
-same-length : tie.Need-same-length
-same-length c =
-    let a = entry (headed (marked c)) .args in
-    ap length (returns c)
-    ∙ length-sets (a .result .now) (a .at) (tableRow (a .cells .now) (a .dropped .now) (a .ins) (a .outs) (a .k))
 
 pub put-row-spec : {M : Type 1} → statement M
 put-row-spec =
