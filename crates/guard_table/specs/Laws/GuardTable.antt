@@ -15,9 +15,7 @@ use Rattle.records.specs.Meaning.Lists.{cat}
 use Rattle.records.specs.Laws.Lists.{length-cat, getD-cat, cat-ext}
 use Rattle.records.specs.Meaning.Numbers.{u16At}
 use Rattle.records.specs.Meaning.Records.{header, headerSize}
-use Rattle.guard_table.specs.Meaning.GuardTable.{headKind, rowKind, headSize, headLength, entryWidth, rowSize, rowLength}
-use Rattle.guard_table.specs.Meaning.GuardTable.{tableLength, rowAt, entryAt, headerIs, outputIn, nextIn}
-use Rattle.guard_table.specs.Meaning.GuardTable.{guardHead, guardEntry, guardRow, guardTable}
+use Rattle.guard_table.specs.Meaning.GuardTable.{headKind, rowKind, headSize, headLength, entryWidth, rowSize, rowLength, tableLength, rowAt, entryAt, headerIs, outputIn, nextIn, guardHead, guardEntry, guardRow, guardTable}
 use Rattle.guard_table.specs.Model.Inside.{tableMost, Sized, RowInside, Inside}
 
 -- ---- inside a table of `count` states
