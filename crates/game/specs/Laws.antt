@@ -9,7 +9,6 @@ pub mod Explored
 pub mod Reachable
 pub mod Numbering
 pub mod Naming
-pub mod Pigeonhole
 pub mod Rounds
 pub mod Value
 pub mod Choice

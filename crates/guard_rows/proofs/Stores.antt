@@ -8,7 +8,8 @@ use lib.Seq.{sets}
 use Rattle.records.specs.Meaning.Lists.{cat}
 use Rattle.records.specs.Laws.Lists.{sets-append}
 use Rattle.records.specs.Meaning.Records.{header}
-use Rattle.guard_table.specs.Meaning.GuardTable.{rowKind, headLength, entryWidth, rowSize, rowAt, entryAt, guardHead, guardEntry, guardRow, guardTable}
+use Rattle.guard_table.specs.Meaning.GuardTable.{rowKind, headLength, entryWidth, rowSize, rowAt, entryAt}
+use Rattle.guard_table.specs.Meaning.GuardTable.{guardHead, guardEntry, guardRow, guardTable}
 use Rattle.guard_table.specs.Laws.GuardTable.{entries-begin, entry-next-to}
 use Rattle.values.specs.Model.Values.{Game}
 use Rattle.values.specs.Model.GuardStates.{chosen}

@@ -6,6 +6,7 @@ pub mod Cursor
 pub mod Limits
 pub mod Lists
 pub mod Numbers
+pub mod Pigeonhole
 pub mod Stores
 pub mod Tests
 pub mod Work

@@ -1,24 +1,40 @@
 -- The loops over outputs and over inputs: the best score so far, and the sum of best scores so far.
 -- Assumes nothing.
-use mathlib.Core.Path.{_≡_, _∙_}
+use mathlib.Core.Path.{_≡_, refl, _∙_}
 use mathlib.Core.Bool.{true, false}
 use mathlib.Core.List.{List}
 use Prim.Native.Nat.{ℕ, _+_, _*_, _^_, _≤_, _<_, max}
 use native.Mathlib.Omega.{arith}
-use lib.ListN.{getD}
+use lib.ListN.{length, getD}
 use Rattle.records.specs.Meaning.Bounded.{sum}
 use Rattle.records.specs.Laws.Bounded.{sum-more, sum-most, top-more}
 use Rattle.records.specs.Model.Bounded.{top}
 use Rattle.rounds.specs.Model.TableRounds.{cellAt, isIn, leadsIn}
+use Rattle.rounds.specs.Laws.CellPlaces.{maxIndex, InRow, CellLeads, in-row, leads-at}
 use Rattle.values.specs.Model.Values.{Game, mayGive, cellNext, earns, scoreOf, worth}
 use Rattle.values.specs.Model.Sizes.{Ready, scoreIn, Scored, bestOf}
-use Rattle.values.specs.Laws.Sizes.{scored-at}
+use Rattle.values.specs.Laws.Sizes.{steps-of, entered, cell-letter-low, scored-at}
 use Rattle.values.specs.Laws.Growth.{best-most}
+
+-- what reading the cell of output o, and the bonus of its letter, asks
+pub record Asked (g : Game) (k i o : ℕ) : Type 0 where
+  pub row : InRow (g .ins) (g .outs) k i o
+  pub leads : CellLeads (g .cells) (g .dropped) (cellAt (g .ins) (g .outs) k i o)
+  pub letter : i + g .ins * o < length (g .bonuses)
 
 module _ {g : Game} {values : List ℕ} {factor k : ℕ} (ready : Ready g values factor k) (i : ℕ) (hi : i < g .ins) where
   -- the cell of output o
   abbrev at : ℕ → ℕ
   at o = cellAt (g .ins) (g .outs) k i o
+
+  pub asked : {o : ℕ} → length (g .cells) ≤ maxIndex → o < g .outs → Asked g k i o
+  asked size ho =
+      let s = ready .sized in
+      record {
+        row = in-row (steps-of s) size (ready .state) hi ho;
+        leads = leads-at (steps-of s) (entered s (ready .state)) hi ho refl;
+        letter = omega (arith, cell-letter-low hi ho, s .bonuses);
+      }
 
   -- the score of an output that may be given can be worked out
   pub scorable : {o to : ℕ} → o < g .outs → leadsIn (g .cells) (g .dropped) (at o) ≡ true → to ≡ getD (g .cells) (at o) 0

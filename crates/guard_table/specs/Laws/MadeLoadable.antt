@@ -27,7 +27,8 @@ module _
     fields : fieldsOk mode inputs outputs horizon count (tableLength inputs count) ≡ true
     unfolding fieldsOk sizeOk
     fields =
-        simp (lines, far, le-leb 1 count some, le-leb count maxStates most, eq-eqb (tableLength inputs count) (tableLength inputs count) refl)
+        let size = tableLength inputs count in
+        simp (lines, far, le-leb 1 count some, le-leb count maxStates most, eq-eqb size size refl)
 
     reads : HeadReads table mode inputs outputs horizon count
     reads = table-head mode inputs outputs horizon count out next

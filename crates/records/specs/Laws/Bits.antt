@@ -3,7 +3,8 @@
 use mathlib.Core.Path.{_≡_, ap, _∙_}
 use mathlib.Core.Bool.{Bool, true, false, cond}
 use Prim.Native.Nat.{ℕ, zero, suc, _+_, _-_, _*_, _/_, _%_, _^_, _≤_, _<_, suc-le-suc}
-use native.Mathlib.Nat.{add-zero, add-div-right, add-mul-div-right, add-mul-mod-self-right, div-eq-of-lt, pow-suc, pow-succ', div-one, div-div-eq-div-mul}
+use native.Mathlib.Nat.{add-zero, add-div-right, add-mul-div-right, add-mul-mod-self-right}
+use native.Mathlib.Nat.{div-eq-of-lt, div-one, div-div-eq-div-mul, pow-suc, pow-succ'}
 use native.Mathlib.Omega.{arith}
 use lib.Pow.{pow-pos, pow-mono, pow-add}
 use Rattle.records.specs.Meaning.Bounded.{sum}
@@ -28,7 +29,8 @@ low-bit : (m n o : ℕ) (b : Bool) → o < n → bitAt (m + cond b (2 ^ n) 0) o 
 low-bit m n o false h = rw add-zero
 low-bit m n o true h =
     let e : n ≡ n - o - 1 + 1 + o = omega arith in
-    let parts : 2 ^ n ≡ 2 ^ (n - o - 1) * 2 * 2 ^ o = ap (λ (x : ℕ). 2 ^ x) e ∙ pow-add 2 (n - o - 1 + 1) o ∙ rw (pow-add 2 (n - o - 1) 1) in
+    let parts : 2 ^ n ≡ 2 ^ (n - o - 1) * 2 * 2 ^ o =
+    ap (λ (x : ℕ). 2 ^ x) e ∙ pow-add 2 (n - o - 1 + 1) o ∙ rw (pow-add 2 (n - o - 1) 1) in
     rw (parts, add-mul-div-right m (2 ^ (n - o - 1) * 2) (pow-pos o)) (add-mul-mod-self-right (m / 2 ^ o) (2 ^ (n - o - 1)) 2)
 
 top-bit : (m n : ℕ) (b : Bool) → m < 2 ^ n → bitAt (m + cond b (2 ^ n) 0) n ≡ cond b 1 0

@@ -63,6 +63,10 @@ put-suc (x ∷ d) (suc i) f = ap (λ (t : List ℕ). f 0 ∷ t) (put-suc d i (λ
 pub put-more : (d : List ℕ) (i : ℕ) (f : ℕ → ℕ) → set (put d i f) i (f i) ≡ put d (i + 1) f
 put-more d i f = rw add-one (put-suc d i f)
 
+-- one more element of a front
+pub put-next : (d : List ℕ) (i : ℕ) (f : ℕ → ℕ) {now : List ℕ} {x : ℕ} → now ≡ put d i f → x ≡ f i → set now i x ≡ put d (i + 1) f
+put-next d i f e g = rw (e, g) (put-more d i f)
+
 pub length-put : (d : List ℕ) (n : ℕ) (f : ℕ → ℕ) → length (put d n f) ≡ length d
 unfolding put
 length-put [] n f = refl
@@ -142,7 +146,9 @@ module _ {ℓ} {A : Type ℓ} (c : ℕ) where
   getD-cat (suc n) f e k j d h l =
       let size : length (cat n f) ≡ n * c = length-cat n f (λ i u. e i (omega arith)) in
       cases-suc k n h
-      (λ u. List·getD-append (cat n f) (f n) d (k * c + j) (rw size (lib.Arith.digits-lt u l)) ∙ getD-cat n f (λ i v. e i (omega arith)) k j d u l)
+      (λ u.
+      List·getD-append (cat n f) (f n) d (k * c + j) (rw size (lib.Arith.digits-lt u l))
+      ∙ getD-cat n f (λ i v. e i (omega arith)) k j d u l)
       (λ u. rw (u, ← size) (getD-append-add (cat n f) (f n) j d))
 
 -- what holds of every element of every block

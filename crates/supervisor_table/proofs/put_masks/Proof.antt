@@ -13,11 +13,15 @@ Inv-loop result₀ at cells dropped n ins outs k i₀ result i =
 abbrev μ-loop : tie.MeasureT-loop
 μ-loop result₀ at cells dropped n ins outs k i₀ result i = ins - i
 
+-- the place that the needs look back to
+abbrev entry : tie.In-loop Inv-loop μ-loop → tie.Start Inv-loop μ-loop
+entry c = c .before .before .before .before .before
+
 loop-holds : tie.Need-loop-holds Inv-loop μ-loop
 loop-holds c = (omega arith, none)
 
 mask-of-requires : tie.Need-mask-of-requires Inv-loop μ-loop
-mask-of-requires c κs = (c .before .before .before .before .before .pre .0, (record { room = omega arith; state = omega arith }, (omega arith, omega arith)))
+mask-of-requires c κs = (entry c .pre .0, (record { room = omega arith; state = omega arith }, (omega arith, omega arith)))
 
 add-result : tie.Need-add-result Inv-loop μ-loop
 add-result c = omega arith

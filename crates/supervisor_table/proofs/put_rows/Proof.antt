@@ -21,6 +21,9 @@ abbrev μ-loop : tie.MeasureT-loop
 abbrev entry : tie.In-loop Inv-loop μ-loop → tie.Start Inv-loop μ-loop
 entry c = c .before .before .before .before .before .before
 
+abbrev turn : tie.After-slice-known2 Inv-loop μ-loop → tie.In-loop Inv-loop μ-loop
+turn c = c .before .before .before .before
+
 -- the record of state k lies inside the result
 inside : (c : tie.In-loop Inv-loop μ-loop) →
     let at = c .before in
@@ -31,7 +34,8 @@ inside c =
     omega (
       arith,
       same-blocks (at .loop .inv .1),
-      row-inside (a .ins) (a .n) (at .loop .k) {room = length (a .result .now)} (at .before .row-length .ensures .0) (omega arith) (omega arith),
+      row-inside (a .ins) (a .n) (at .loop .k) {room = length (a .result .now)} (at .before .row-length .ensures .0)
+          (omega arith) (omega arith),
     )
 
 row-length-requires : tie.Need-row-length-requires Inv-loop μ-loop
@@ -47,7 +51,8 @@ add-put-row : tie.Need-add-put-row Inv-loop μ-loop
 add-put-row c = omega (arith, inside (c .before), same-blocks (c .before .before .loop .inv .1))
 
 put-row-requires : tie.Need-put-row-requires Inv-loop μ-loop
-put-row-requires c κs = (entry (c .before) .pre .0, (omega arith, (omega arith, (omega arith, (omega arith, (omega arith, inside (c .before)))))))
+put-row-requires c κs =
+    (entry (c .before) .pre .0, (omega arith, (omega arith, (omega arith, (omega arith, (omega arith, inside (c .before)))))))
 
 add-k : tie.Need-add-k Inv-loop μ-loop
 add-k c = omega arith
@@ -56,8 +61,11 @@ loop-less : tie.Need-loop-less Inv-loop μ-loop
 loop-less c = omega arith
 
 loop-again : tie.Need-loop-again Inv-loop μ-loop
-loop-again c = let at = c .before .before .before .before .before in
-    (omega arith, more-blocks (at .loop .inv .1) (λ q. length-mask-row _ _ _ _ q ∙ sym (at .before .row-length .ensures .0)) (c .before .before .put-row .ensures))
+loop-again c = let at = turn c .before in (
+  omega arith,
+  more-blocks (at .loop .inv .1) (λ q. length-mask-row _ _ _ _ q ∙ sym (at .before .row-length .ensures .0))
+      (c .before .before .put-row .ensures),
+)
 
 same-length : tie.Need-same-length Inv-loop μ-loop
 same-length c = same-blocks (c .before .loop .inv .1)

@@ -12,14 +12,13 @@ use native.Mathlib.Omega.{arith}
 use lib.Dec.{ltb, eqb}
 use lib.ListN.{length, getD}
 use lib.Pow.{pow-mono}
-use borrow.Author.Tests.{eqb-true, eqb-false, lt-ltb, le-ltb}
+use borrow.Author.Tests.{eqb-true, eqb-false}
 use Rattle.records.specs.Laws.Tests.{by-test}
-use Rattle.records.specs.Laws.Bounded.{cases-suc, any-at, any-not}
-use Rattle.records.specs.Meaning.Bounded.{any}
+use Rattle.records.specs.Laws.Bounded.{cases-suc}
 use Rattle.records.specs.Laws.Bits.{same-bits}
 use Rattle.records.specs.Meaning.Lists.{tab}
 use Rattle.records.specs.Laws.Lists.{length-tab, getD-tab}
-use Rattle.game.specs.Laws.Pigeonhole.{pigeonhole}
+use Rattle.records.specs.Laws.Pigeonhole.{onto}
 use Rattle.values.specs.Meaning.Order.{literalHolds, Higher}
 use Rattle.values.specs.Model.Rank.{rankBy, rank}
 
@@ -125,48 +124,6 @@ rank-front literals n o = rw length-tab (go n (omega arith))
     go (suc m) h = rw (go m (omega arith), getD-tab n (λ j. getD literals j 0) m 0 h)
 
 -- ---- each line named once: no two outputs have the same rank
-
--- a function on the numbers below n into themselves, one to one, takes each of them as a value
-onto : (n : ℕ) (f : ℕ → ℕ) → ((j : ℕ) → j < n → f j < n) → ((a b : ℕ) → a < b → b < n → f a ≡ f b → ⊥)
-    → (m : ℕ) → m < n → (j : ℕ) × (j < n) × (f j ≡ m)
-onto n f low once m inside = by-test (any n (λ j. eqb (f j) m)) hit missed
-  where
-    hit : any n (λ j. eqb (f j) m) ≡ true → (j : ℕ) × (j < n) × (f j ≡ m)
-    hit e = let r = any-at n (λ j. eqb (f j) m) e in (r .0, r .1, eqb-true _ _ (r .2))
-
-    same : (a b : ℕ) → a < n → b < n → f a ≡ f b → a ≡ b
-    same a b ha hb e =
-        elim (decLt a b) [
-          | yes l ↦ absurd (once a b l hb e)
-          | no l ↦ elim (decLt b a) [ yes k ↦ absurd (once b a k ha (sym e)) | no k ↦ omega arith ]
-        ]
-
-    -- else f, with m as its value at n, is one to one on the numbers below n + 1
-    with-m : ℕ → ℕ
-    with-m j = cond (ltb j n) (f j) m
-
-    before : (j : ℕ) → j < n → with-m j ≡ f j
-    before j h = rw (lt-ltb j n h)
-
-    last : (j : ℕ) → j ≡ n → with-m j ≡ m
-    last j e = rw (le-ltb j n (omega arith))
-
-    missed : any n (λ j. eqb (f j) m) ≡ false → (j : ℕ) × (j < n) × (f j ≡ m)
-    missed e =
-        let none : (j : ℕ) → j < n → f j ≡ m → ⊥ = λ j h. eqb-false _ _ (any-not n (λ i. eqb (f i) m) e j h) in
-        absurd (omega (
-          arith,
-          pigeonhole (suc n) n with-m
-              (λ j h. cases-suc j n h (λ l. rw (before j l) (low j l)) (λ l. rw (last j l) inside))
-              (λ a b ha hb s.
-              cases-suc a n ha
-              (λ la. cases-suc b n hb
-              (λ lb. same a b la lb (sym (before a la) ∙ s ∙ before b lb))
-              (λ lb. absurd (none a la (sym (before a la) ∙ s ∙ last b lb))))
-              (λ la. cases-suc b n hb
-              (λ lb. absurd (none b lb (sym (before b lb) ∙ sym s ∙ last a la)))
-              (λ lb. omega arith))),
-        ))
 
 -- a literal tells its line's bit
 holds-bit : (literal o q : ℕ) → literalHolds literal o ≡ literalHolds literal q → o / 2 ^ (literal % 8) % 2 ≡ q / 2 ^ (literal % 8) % 2

@@ -110,7 +110,8 @@ loop-again c =
     let l = at .before .before .loop in (
       omega arith,
       more-blocks (l .inv .1) (λ q. refl)
-          (entry-stored (l .result) (a .lines) (a .place) (l .i) (getD (a .choices .now) (a .k * a .ins + l .i) 0) (done .before .before .entry-at .ensures)
+          (entry-stored (l .result) (a .lines) (a .place) (l .i) (getD (a .choices .now) (a .k * a .ins + l .i) 0)
+          (done .before .before .entry-at .ensures)
           (ap (λ (x : ℕ). getD (a .numbers .now) x 0 - 1) (at .follow .ensures)) (done .put-entry .ensures)),
     )
 

@@ -15,6 +15,9 @@ start c = c .before .before .before .before .before
 abbrev headed : tie.After-put-entries-arg → tie.After-put-row-header
 headed c = c .before .before .before
 
+abbrev stored : tie.After-slice-known3 → tie.After-put-entries
+stored c = c .before .before
+
 put-row-header-requires : tie.Need-put-row-header-requires
 put-row-header-requires c κs = start c .pre .1 .1
 
@@ -26,12 +29,13 @@ same-length : tie.Need-same-length
 same-length c = search needs
 
 returns : tie.Need-returns
-returns c = let at = headed (c .before .before .before) in
+returns c = let at = headed (stored c .before) in
     let s = start (at .before) in
     let a = s .args in
     let g = stepsOf (a .cells .now) (a .ins) (a .outs) in
-    row-stored (a .result .now) (a .lines) (a .place) (chosen g (a .choices .now) (a .k)) (numbered g (a .choices .now) (a .numbers .now) (a .k))
-    (s .pre .1 .0) (at .put-row-header .ensures) (c .before .before .put-entries .ensures)
+    row-stored (a .result .now) (a .lines) (a .place) (chosen g (a .choices .now) (a .k))
+    (numbered g (a .choices .now) (a .numbers .now) (a .k))
+    (s .pre .1 .0) (at .put-row-header .ensures) (stored c .put-entries .ensures)
 
 pub put-row-spec : {M : Type 1} → statement M
 put-row-spec =

@@ -26,13 +26,17 @@ entry c = c .before .before .before .before .before .before
 abbrev turn : tie.After-put-row-arg Inv-loop μ-loop → tie.At-loop Inv-loop μ-loop
 turn c = c .before .before .before
 
+abbrev stored : tie.After-slice-known2 Inv-loop μ-loop → tie.After-put-row Inv-loop μ-loop
+stored c = c .before .before
+
 -- the row of guard state j lies inside the result
 inside : (c : tie.In-loop Inv-loop μ-loop) → let at = c .before in RowInside (at .loop .result) (entry at .args .lines) (at .loop .j)
 inside c =
     let at = c .before in
     let s = entry at in
     row-kept {t = s .args .result .now}
-    (row-inside (s .pre .1 .1 .0) (omega (arith, count-most (s .pre .0), s .pre .0 .following .states)) (s .pre .1 .1 .1) (c .loop-test .taken))
+    (row-inside (s .pre .1 .1 .0) (omega (arith, count-most (s .pre .0), s .pre .0 .following .states)) (s .pre .1 .1 .1)
+    (c .loop-test .taken))
     (same-blocks (at .loop .inv .1))
 
 loop-holds : tie.Need-loop-holds Inv-loop μ-loop
@@ -59,8 +63,8 @@ loop-less c = omega arith
 
 loop-again : tie.Need-loop-again Inv-loop μ-loop
 unfolding rowAt
-loop-again c = let at = turn (c .before .before .before) in
-    (omega arith, more-blocks (at .loop .inv .1) (λ q. length-row _ _ _) (c .before .before .put-row .ensures))
+loop-again c = let at = turn (stored c .before) in
+    (omega arith, more-blocks (at .loop .inv .1) (λ q. length-row _ _ _) (stored c .put-row .ensures))
 
 same-length : tie.Need-same-length Inv-loop μ-loop
 same-length c = same-blocks (c .before .loop .inv .1)

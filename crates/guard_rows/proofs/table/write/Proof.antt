@@ -15,6 +15,9 @@ start c = c .before .before .before .before .before .before
 abbrev headed : tie.After-put-rows-arg → tie.After-put-head
 headed c = c .before .before .before
 
+abbrev stored : tie.After-slice-known3 → tie.After-put-rows
+stored c = c .before .before
+
 cast-put-head : tie.Need-cast-put-head
 cast-put-head c = let s = start c in omega (arith, count-most (s .pre .0), s .pre .0 .following .states)
 
@@ -30,11 +33,11 @@ same-length : tie.Need-same-length
 same-length c = search needs
 
 returns : tie.Need-returns
-returns c = let at = headed (c .before .before .before) in
+returns c = let at = headed (stored c .before) in
     let a = start (at .before) .args in
     table-stored (a .result .now) (a .sheet .mode) (a .sheet .inputs) (a .sheet .outputs) (a .horizon) (a .count)
     (stepsOf (a .cells .now) (a .ins) (a .outs)) (a .choices .now) (a .order .now) (a .numbers .now)
-    (at .put-head .ensures) (c .before .before .put-rows .ensures)
+    (at .put-head .ensures) (stored c .put-rows .ensures)
 
 pub write-spec : {M : Type 1} → statement M
 write-spec =

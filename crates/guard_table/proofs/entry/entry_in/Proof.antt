@@ -8,9 +8,12 @@ use Rattle.guard_table.specs.Meaning.GuardTable.{nextEnd, outputIn, next
 use Rattle.guard_table.proofs.entry.entry_in.Statement.{statement}
 use Rattle.guard_table.proofs.entry.entry_in.Tie as tie
 
--- the place that the needs look back to
+-- the places that the needs look back to
 abbrev start : tie.After-entry-at → tie.Start
 start c = c .before .before
+
+abbrev found : tie.After-shared-slice-known3 → tie.After-entry-at
+found c = c .before .before
 
 -- the entry lies inside the table
 inside : (c : tie.After-entry-at) → c .entry-at .result + 1 < length (start c .args .table .now)
@@ -18,9 +21,8 @@ inside c = omega (arith, c .entry-at .ensures, start c .pre .ends)
 
 -- its next state is a byte
 byte : (c : tie.After-shared-slice-known3) →
-    let d = c .before .before in
-    getD (start d .args .table .now) (d .entry-at .result + 1) 0 < nextEnd
-byte c = omega (arith, c .shared-slice-known3 .given (c .before .before .entry-at .result + 1))
+    getD (start (found c) .args .table .now) (found c .entry-at .result + 1) 0 < nextEnd
+byte c = omega (arith, c .shared-slice-known3 .given (found c .entry-at .result + 1))
 
 entry-at-requires : tie.Need-entry-at-requires
 entry-at-requires c κs =
@@ -35,14 +37,14 @@ add-next : tie.Need-add-next
 add-next c = omega (arith, inside (c .before))
 
 shared-slice-read-next : tie.Need-shared-slice-read-next
-shared-slice-read-next c = omega (arith, inside (c .before .before))
+shared-slice-read-next c = omega (arith, inside (found c))
 
 cast-next : tie.Need-cast-next
 cast-next c = omega (arith, byte c)
 
 returns : tie.Need-returns
 unfolding outputIn nextIn
-returns c = let e = c .before .before .entry-at .ensures in (rw e, (rw e, byte c))
+returns c = let e = found c .entry-at .ensures in (rw e, (rw e, byte c))
 
 pub entry-in-spec : {M : Type 1} → statement M
 entry-in-spec =

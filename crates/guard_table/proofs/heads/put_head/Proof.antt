@@ -1,14 +1,14 @@
 -- `guard_table::heads::put_head`: ten bytes, stored one after the other. Assumes nothing.
-use mathlib.Core.Path.{ap, _∙_}
-use mathlib.Core.List.{_∷_, _++_}
+use mathlib.Core.Path.{_∙_}
 use native.Mathlib.Omega.{arith}
-use lib.ListN.{length, length-set}
-use lib.Seq.{length-sets}
-use Rattle.records.specs.Meaning.Numbers.{u16Bytes}
-use Rattle.records.specs.Meaning.Records.{header}
+use lib.ListN.{length-set}
 use borrow.Author.Needs.{needs}
 use Rattle.guard_table.proofs.heads.put_head.Statement.{statement}
 use Rattle.guard_table.proofs.heads.put_head.Tie as tie
+
+-- the place that the needs look back to
+abbrev headed : tie.After-slice-known3 → tie.After-put-header
+headed c = c .before .before .before .before .before .before
 
 put-header-requires : tie.Need-put-header-requires
 put-header-requires c κs = search needs
@@ -28,13 +28,11 @@ slice-write-result-4 c = simp length-set (omega arith)
 put-u16-requires : tie.Need-put-u16-requires
 put-u16-requires c κs = simp length-set (omega arith)
 
-returns : tie.Need-returns
-returns c = rw (c .before .before .put-u16 .ensures, c .before .before .before .before .before .before .put-header .ensures)
-
 same-length : tie.Need-same-length
-same-length c = let a = c .before .before .before .before .before .before .before .before .before .args in
-    ap length (returns c)
-    ∙ length-sets (a .result .now) 0 (header 6 16 ++ (a .mode ∷ a .inputs ∷ a .outputs ∷ a .horizon ∷ u16Bytes (a .count)))
+same-length c = c .before .before .put-u16 .kept .0 ∙ simp length-set (headed c .put-header .kept .0)
+
+returns : tie.Need-returns
+returns c = rw (c .before .before .put-u16 .ensures, headed c .put-header .ensures)
 
 pub put-head-spec : {M : Type 1} → statement M
 put-head-spec =

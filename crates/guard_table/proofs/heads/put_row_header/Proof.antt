@@ -37,7 +37,8 @@ returns c =
     let d = c .before .before in
     let at = d .before in
     d .put-header .ensures
-    ∙ ap₂ (λ (n size : ℕ). sets (start (sized at) .args .result .now) n (header size rowKind)) (at .row-at .ensures .0) (sized at .row-size .ensures .0)
+    ∙ ap₂ (λ (n size : ℕ). sets (start (sized at) .args .result .now) n (header size rowKind))
+    (at .row-at .ensures .0) (sized at .row-size .ensures .0)
 
 pub put-row-header-spec : {M : Type 1} → statement M
 put-row-header-spec =

@@ -16,7 +16,8 @@ use Rattle.guard_table.proofs.loadable.entries_ok.Tie as tie
 
 abbrev Inv-loop : tie.InvT-loop
 Inv-loop t inputs outputs count place left₀ left =
-    (left ≤ 2 ^ inputs) × ((i : ℕ) → left ≤ i → i < 2 ^ inputs → entryOk (outputIn t inputs place i) (nextIn t inputs place i) outputs count ≡ true)
+    (left ≤ 2 ^ inputs)
+    × ((i : ℕ) → left ≤ i → i < 2 ^ inputs → entryOk (outputIn t inputs place i) (nextIn t inputs place i) outputs count ≡ true)
 
 abbrev μ-loop : tie.MeasureT-loop
 μ-loop t inputs outputs count place left₀ left = left
@@ -30,12 +31,25 @@ down p n k z e f i l h =
       | no q ↦ f i (omega arith) h
     ]
 
--- the places: the function's entry, and the loop's head
+-- the places that the needs look back to
 abbrev turn : tie.After-entry-in Inv-loop μ-loop → tie.At-loop Inv-loop μ-loop
 turn c = c .before .before
 
 abbrev entry : tie.At-loop Inv-loop μ-loop → tie.Start Inv-loop μ-loop
 entry c = c .before .before .before
+
+-- the definition's test of entry i
+abbrev fine : tie.Start Inv-loop μ-loop → ℕ → Bool
+fine s i = let a = s .args in
+    entryOk (outputIn (now (a .t)) (a .inputs) (a .place) i) (nextIn (now (a .t)) (a .inputs) (a .place) i) (a .outputs) (a .count)
+
+-- is the code's
+tested : (c : tie.After-entry-ok Inv-loop μ-loop) {f : Bool} →
+    let d = c .before in
+    let s = entry (turn d) in
+    entryOk (d .entry-in .result .output) (d .entry-in .result .next) (s .args .outputs) (s .args .count) ≡ f
+    → fine s (turn d .loop .left - 1) ≡ f
+tested c = let e = c .before .entry-in .ensures in entry-tested _ _ _ _ _ _ (e .0) (e .1 .0)
 
 below : (c : tie.In-loop Inv-loop μ-loop) → c .before .loop .left - 1 < 2 ^ entry (c .before) .args .inputs
 below c = omega (arith, c .loop-test .taken, c .before .loop .inv .0)
@@ -59,19 +73,19 @@ returns : tie.Need-returns Inv-loop μ-loop
 unfolding entriesOk
 returns c =
     let d = c .before .before in
-    sym (all-fails _ _ (turn d .loop .left - 1) (below (d .before)) (entry-tested _ _ _ _ _ _ (d .entry-in .ensures .0) (d .entry-in .ensures .1 .0) (said-no (c .before .entry-ok .ensures) (c .if1 .taken))))
+    sym (all-fails _ _ (turn d .loop .left - 1) (below (d .before))
+    (tested (c .before) (said-no (c .before .entry-ok .ensures) (c .if1 .taken))))
 
 loop-less : tie.Need-loop-less Inv-loop μ-loop
-loop-less c = omega (arith, c .before .before .before .loop-test .taken)
+loop-less c = let d = c .before .before in omega (arith, d .before .loop-test .taken)
 
 loop-again : tie.Need-loop-again Inv-loop μ-loop
 loop-again c =
     let d = c .before .before in
-    let a = entry (turn d) .args in (
+    let s = entry (turn d) in (
       omega (arith, turn d .loop .inv .0),
-      down (λ i. entryOk (outputIn (now (a .t)) (a .inputs) (a .place) i) (nextIn (now (a .t)) (a .inputs) (a .place) i) (a .outputs) (a .count))
-          (2 ^ a .inputs) (turn d .loop .left) (d .before .loop-test .taken) (entry-tested _ _ _ _ _ _ (d .entry-in .ensures .0) (d .entry-in .ensures .1 .0) (said-yes (c .before .entry-ok .ensures) (c .if1 .left)))
-          (turn d .loop .inv .1),
+      down (fine s) (2 ^ s .args .inputs) (turn d .loop .left) (d .before .loop-test .taken)
+          (tested (c .before) (said-yes (c .before .entry-ok .ensures) (c .if1 .left))) (turn d .loop .inv .1),
     )
 
 returns-2 : tie.Need-returns-2 Inv-loop μ-loop

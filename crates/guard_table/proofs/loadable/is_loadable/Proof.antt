@@ -10,11 +10,15 @@ use borrow.Author.Needs.{needs}
 use Rattle.guard_table.proofs.loadable.is_loadable.Statement.{statement}
 use Rattle.guard_table.proofs.loadable.is_loadable.Tie as tie
 
+-- the places that the needs look back to
+abbrev entry : tie.Then1 → tie.Start
+entry c = c .before .before .before
+
 -- where the rows are tested
 abbrev tested : tie.After-u16-at → tie.Then1
 tested c = c .before .before .before
 
-head : (c : tie.Then1) → tableHeadOk (now (c .before .before .before .args .t)) ≡ true
+head : (c : tie.Then1) → tableHeadOk (now (entry c .args .t)) ≡ true
 head c = said (c .before .head-ok .ensures) (c .if1 .taken)
 
 head-ok-requires : tie.Need-head-ok-requires

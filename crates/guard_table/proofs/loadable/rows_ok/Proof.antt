@@ -16,20 +16,24 @@ Inv-loop t inputs outputs count place₀ place = (place ≤ count) × (all place
 abbrev μ-loop : tie.MeasureT-loop
 μ-loop t inputs outputs count place₀ place = count - place
 
--- the loop's head, from a turn with its row tested
+-- the places: the loop's head, from a turn with its row tested, and the function's entry
 abbrev turn : tie.After-row-ok Inv-loop μ-loop → tie.At-loop Inv-loop μ-loop
 turn c = c .before .before
+
+abbrev entry : tie.At-loop Inv-loop μ-loop → tie.Start Inv-loop μ-loop
+entry c = c .before .before
 
 loop-holds : tie.Need-loop-holds Inv-loop μ-loop
 loop-holds c = (omega arith, all-none _)
 
 row-ok-requires : tie.Need-row-ok-requires Inv-loop μ-loop
-row-ok-requires c κs = let s = c .before .before .before in (s .pre .0, (s .pre .1, c .loop-test .taken))
+row-ok-requires c κs = let s = entry (c .before) in (s .pre .0, (s .pre .1, c .loop-test .taken))
 
 returns : tie.Need-returns Inv-loop μ-loop
 unfolding rowsOk
 returns c =
-    sym (all-fails _ _ (turn (c .before) .loop .place) (c .before .before .loop-test .taken) (said-no (c .before .row-ok .ensures) (c .if1 .taken)))
+    sym (all-fails _ _ (turn (c .before) .loop .place) (c .before .before .loop-test .taken)
+    (said-no (c .before .row-ok .ensures) (c .if1 .taken)))
 
 add-place : tie.Need-add-place Inv-loop μ-loop
 add-place c = omega arith
@@ -46,7 +50,7 @@ returns-2 : tie.Need-returns-2 Inv-loop μ-loop
 unfolding rowsOk
 returns-2 c =
     let l = c .before in
-    let e : l .loop .place ≡ l .before .before .args .count = omega arith in
+    let e : l .loop .place ≡ entry l .args .count = omega arith in
     sym (rw e at (l .loop .inv .1))
 
 pub rows-ok-spec : {M : Type 1} → statement M

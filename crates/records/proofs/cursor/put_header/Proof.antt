@@ -4,6 +4,10 @@ use borrow.Author.Needs.{needs}
 use Rattle.records.proofs.cursor.put_header.Statement.{statement}
 use Rattle.records.proofs.cursor.put_header.Tie as tie
 
+-- the place that the needs look back to
+abbrev first : tie.After-put-u162 → tie.After-put-u16
+first c = c .before .before .before .before
+
 put-u16-requires : tie.Need-put-u16-requires
 put-u16-requires c κs = search needs
 
@@ -17,7 +21,7 @@ same-length : tie.Need-same-length
 same-length c = search needs
 
 returns : tie.Need-returns
-returns c = rw (c .before .before .put-u162 .ensures, c .before .before .before .before .before .before .put-u16 .ensures, add-two)
+returns c = rw (c .before .before .put-u162 .ensures, first (c .before .before) .put-u16 .ensures, add-two)
 
 pub put-header-spec : {M : Type 1} → statement M
 put-header-spec =

@@ -12,7 +12,9 @@ unfolding horizonOk
 returns c = search cases
 
 mul-result : tie.Need-mul-result
-mul-result c = omega (arith, mul-le-mul {n₁ = c .before .args .inputs} {m₁ = c .before .args .horizon} {n₂ = 255} {m₂ = maxHorizon} (omega arith) (omega arith))
+mul-result c =
+    let a = c .before .args in
+    omega (arith, mul-le-mul {n₁ = a .inputs} {m₁ = a .horizon} {n₂ = 255} {m₂ = maxHorizon} (omega arith) (omega arith))
 
 cast-result : tie.Need-cast-result
 cast-result c = search needs

@@ -1,17 +1,13 @@
 -- `values::choice::choose_output`: the leader of the outputs before o. Assumes nothing.
-use mathlib.Core.Path.{_≡_, refl, _∙_}
+use mathlib.Core.Path.{_≡_, _∙_}
 use mathlib.Core.Logic.{⊎-elim}
-use Prim.Native.Nat.{_+_, _*_, _-_, _≤_, _<_}
-use lib.ListN.{length}
+use Prim.Native.Nat.{_-_, _≤_}
 use native.Mathlib.Omega.{arith}
 use borrow.Author.Needs.{needs}
 use Rattle.records.specs.Laws.Tests.{said}
-use Rattle.rounds.specs.Model.TableRounds.{cellAt}
-use Rattle.rounds.specs.Laws.CellPlaces.{InRow, CellLeads, in-row, leads-at}
 use Rattle.values.specs.Model.Values.{Game}
 use Rattle.values.specs.Model.Sizes.{gameOf}
-use Rattle.values.specs.Laws.Sizes.{steps-of, entered, cell-letter-low}
-use Rattle.values.proofs.Best.{scorable}
+use Rattle.values.proofs.Best.{Asked, asked, scorable}
 use Rattle.values.proofs.Leading.{leading, lead-begin, lead-more, lead-same, lead-low, lead-end}
 use Rattle.values.proofs.choice.choose_output.Statement.{statement}
 use Rattle.values.proofs.choice.choose_output.Tie as tie
@@ -23,30 +19,22 @@ Inv-loop cells dropped gains bonuses ins outs literals count values factor k i l
 abbrev μ-loop : tie.MeasureT-loop
 μ-loop cells dropped gains bonuses ins outs literals count values factor k i leader₀ o₀ leader o = outs - o
 
+-- the places that the needs look back to
 abbrev entry : tie.At-loop Inv-loop μ-loop → tie.Start Inv-loop μ-loop
 entry c = c .before .before .before .before .before .before .before
+
+abbrev turn : tie.After-next-of Inv-loop μ-loop → tie.In-loop Inv-loop μ-loop
+turn c = c .before .before .before
+
+abbrev head : tie.Joined1 Inv-loop μ-loop → tie.At-loop Inv-loop μ-loop
+head c = c .before .before .before
 
 abbrev game : tie.Start Inv-loop μ-loop → Game
 game s = gameOf (s .args .cells .now) (s .args .dropped .now) (s .args .gains .now) (s .args .bonuses .now) (s .args .ins) (s .args .outs)
 
--- the cell of output o
-row : (c : tie.In-loop Inv-loop μ-loop)
-    → let a = entry (c .before) .args in InRow (a .ins) (a .outs) (a .k) (a .i) (c .before .loop .o)
-row c =
-    let p = entry (c .before) .pre in
-    in-row (steps-of (p .0 .sized)) (omega arith) (p .0 .state) (p .1 .0) (c .loop-test .taken)
-
-leads : (c : tie.In-loop Inv-loop μ-loop)
-    → let a = entry (c .before) .args in
-    CellLeads (a .cells .now) (a .dropped .now) (cellAt (a .ins) (a .outs) (a .k) (a .i) (c .before .loop .o))
-leads c =
-    let p = entry (c .before) .pre in
-    leads-at (steps-of (p .0 .sized)) (entered (p .0 .sized) (p .0 .state)) (p .1 .0) (c .loop-test .taken) refl
-
-letter : (c : tie.In-loop Inv-loop μ-loop)
-    → entry (c .before) .args .i + entry (c .before) .args .ins * c .before .loop .o < length (entry (c .before) .args .bonuses .now)
-letter c =
-    let p = entry (c .before) .pre in omega (arith, cell-letter-low (p .1 .0) (c .loop-test .taken), p .0 .sized .bonuses)
+-- what reading output o's cell asks
+reads : (c : tie.In-loop Inv-loop μ-loop) → let s = entry (c .before) in Asked (game s) (s .args .k) (s .args .i) (c .before .loop .o)
+reads c = let p = entry (c .before) .pre in asked (p .0) _ (p .1 .0) (omega arith) (c .loop-test .taken)
 
 none-requires : tie.Need-none-requires Inv-loop μ-loop
 none-requires c κs = search needs
@@ -55,25 +43,24 @@ loop-holds : tie.Need-loop-holds Inv-loop μ-loop
 loop-holds c = (omega arith, lead-begin _ _ _ _ _ _ _ (c .none .ensures))
 
 may-give-requires : tie.Need-may-give-requires Inv-loop μ-loop
-may-give-requires c κs = (row c, leads c)
+may-give-requires c κs = (reads c .row, reads c .leads)
 
 next-of-requires : tie.Need-next-of-requires Inv-loop μ-loop
-next-of-requires c κs = (row (c .before .before), leads (c .before .before) .within)
+next-of-requires c κs = let r = reads (c .before .before) in (r .row, r .leads .within)
 
 mul-score-of : tie.Need-mul-score-of Inv-loop μ-loop
-mul-score-of c = omega (arith, letter (c .before .before .before))
+mul-score-of c = omega (arith, reads (turn c) .letter)
 
 add-score-of : tie.Need-add-score-of Inv-loop μ-loop
-add-score-of c = omega (arith, letter (c .before .before .before))
+add-score-of c = omega (arith, reads (turn c) .letter)
 
 score-of-requires : tie.Need-score-of-requires Inv-loop μ-loop
-score-of-requires c κs = let i = c .before .before .before in
-    let p = entry (i .before) .pre in
-    scorable (p .0) _ (p .1 .0) (i .loop-test .taken)
+score-of-requires c κs = let p = entry (turn c .before) .pre in
+    scorable (p .0) _ (p .1 .0) (turn c .loop-test .taken)
     (said (c .before .before .may-give .ensures) (c .before .if1 .taken)) (c .next-of .ensures)
 
 rank-of-requires : tie.Need-rank-of-requires Inv-loop μ-loop
-rank-of-requires c κs = entry (c .before .before .before .before .before) .pre .1 .1
+rank-of-requires c κs = entry (turn (c .before) .before) .pre .1 .1
 
 against-requires : tie.Need-against-requires Inv-loop μ-loop
 against-requires c κs = search needs
@@ -85,7 +72,7 @@ loop-less : tie.Need-loop-less Inv-loop μ-loop
 loop-less c = omega arith
 
 loop-again : tie.Need-loop-again Inv-loop μ-loop
-loop-again c = let h = c .before .before .before in
+loop-again c = let h = head c in
     let g = game (entry h) in (
       omega arith,
       ⊎-elim

@@ -4,7 +4,7 @@ use Prim.Native.Nat.{_*_, _/_, _%_, _-_, _≤_, _<_}
 use native.Mathlib.Nat.{mod-lt, div-lt-iff-lt-mul}
 use native.Mathlib.Omega.{arith}
 use Rattle.records.specs.Model.Lists.{put}
-use Rattle.records.specs.Laws.Lists.{put-none, put-more, length-put}
+use Rattle.records.specs.Laws.Lists.{put-none, put-next, length-put}
 use Rattle.values.specs.Model.Values.{choices}
 use Rattle.values.specs.Model.Sizes.{gameOf}
 use Rattle.values.specs.Model.Leaders.{literalsOf}
@@ -20,8 +20,12 @@ Inv-loop cells dropped gains bonuses ins outs n literals count values factor cho
 abbrev μ-loop : tie.MeasureT-loop
 μ-loop cells dropped gains bonuses ins outs n literals count values factor chosen₀ at₀ chosen at = n * ins - at
 
+-- the places that the needs look back to
 abbrev entry : tie.At-loop Inv-loop μ-loop → tie.Start Inv-loop μ-loop
 entry c = c .before .before .before .before .before .before .before
+
+abbrev turn : tie.After-choose-output Inv-loop μ-loop → tie.At-loop Inv-loop μ-loop
+turn c = c .before .before
 
 loop-holds : tie.Need-loop-holds Inv-loop μ-loop
 loop-holds c = (omega arith, sym (put-none _ _))
@@ -43,16 +47,16 @@ choose-output-requires c κs = let p = entry (c .before) .pre in
     )
 
 slice-write-chosen : tie.Need-slice-write-chosen Inv-loop μ-loop
-slice-write-chosen c = rw (c .before .before .loop .inv .1, length-put) (omega (arith, entry (c .before .before) .pre .1 .1 .1))
+slice-write-chosen c = rw (turn c .loop .inv .1, length-put) (omega (arith, entry (turn c) .pre .1 .1 .1))
 
 add-at : tie.Need-add-at Inv-loop μ-loop
-add-at c = omega (arith, entry (c .before .before) .pre .1 .1 .1)
+add-at c = omega (arith, entry (turn c) .pre .1 .1 .1)
 
 loop-less : tie.Need-loop-less Inv-loop μ-loop
 loop-less c = omega arith
 
 loop-again : tie.Need-loop-again Inv-loop μ-loop
-loop-again c = (omega arith, rw (c .before .before .loop .inv .1, c .choose-output .ensures) (put-more _ _ _))
+loop-again c = (omega arith, put-next _ _ _ (turn c .loop .inv .1) (c .choose-output .ensures))
 
 same-length : tie.Need-same-length Inv-loop μ-loop
 same-length c = rw (c .before .loop .inv .1, length-put)

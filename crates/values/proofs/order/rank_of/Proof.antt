@@ -16,6 +16,10 @@ Inv-loop count o literals rank₀ j₀ rank j = (j ≤ count) × (rank ≡ rankB
 abbrev μ-loop : tie.MeasureT-loop
 μ-loop count o literals rank₀ j₀ rank j = count - j
 
+-- the place that the needs look back to
+abbrev turn : tie.After-literal-holds Inv-loop μ-loop → tie.At-loop Inv-loop μ-loop
+turn c = c .before .before
+
 -- three literals give ranks below 8
 small : (c : tie.At-loop Inv-loop μ-loop) → c .loop .rank < 8
 small c = rank-small _ _ _ _ (c .loop .inv .1) (omega arith)
@@ -33,7 +37,7 @@ literal-holds-requires : tie.Need-literal-holds-requires Inv-loop μ-loop
 literal-holds-requires c κs = search needs
 
 add-rank : tie.Need-add-rank Inv-loop μ-loop
-add-rank c = omega (arith, small (c .before .before .before))
+add-rank c = omega (arith, small (turn (c .before)))
 
 add-j : tie.Need-add-j Inv-loop μ-loop
 add-j c = omega arith
@@ -46,8 +50,8 @@ loop-again c = (
   omega arith,
   rw rank-more
       (⊎-elim
-      (λ w. w .1 ∙ rw (said (c .before .literal-holds .ensures) (w .0 .taken), c .before .before .before .loop .inv .1) (omega arith))
-      (λ w. w .1 ∙ rw (said (c .before .literal-holds .ensures) (w .0 .left), c .before .before .before .loop .inv .1) (omega arith))
+      (λ w. w .1 ∙ rw (said (c .before .literal-holds .ensures) (w .0 .taken), turn (c .before) .loop .inv .1) (omega arith))
+      (λ w. w .1 ∙ rw (said (c .before .literal-holds .ensures) (w .0 .left), turn (c .before) .loop .inv .1) (omega arith))
       (c .if1 .came)),
 )
 

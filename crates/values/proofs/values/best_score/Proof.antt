@@ -1,18 +1,14 @@
 -- `values::values::best_score`: the best score of the outputs before o. Assumes nothing.
-use mathlib.Core.Path.{_≡_, refl, sym, _∙_}
+use mathlib.Core.Path.{_≡_, sym, _∙_}
 use mathlib.Core.Logic.{⊎-elim}
-use Prim.Native.Nat.{_+_, _*_, _-_, _≤_, _<_}
-use lib.ListN.{length}
+use Prim.Native.Nat.{_-_, _≤_}
 use native.Mathlib.Omega.{arith}
 use borrow.Author.Needs.{needs}
 use Rattle.records.specs.Laws.Bounded.{top-none}
 use Rattle.records.specs.Laws.Tests.{said}
-use Rattle.rounds.specs.Model.TableRounds.{cellAt}
-use Rattle.rounds.specs.Laws.CellPlaces.{InRow, CellLeads, in-row, leads-at}
 use Rattle.values.specs.Model.Values.{Game}
 use Rattle.values.specs.Model.Sizes.{gameOf}
-use Rattle.values.specs.Laws.Sizes.{steps-of, entered, cell-letter-low}
-use Rattle.values.proofs.Best.{bestBefore, scorable, best-more, best-same}
+use Rattle.values.proofs.Best.{Asked, asked, bestBefore, scorable, best-more, best-same}
 use Rattle.values.proofs.values.best_score.Statement.{statement}
 use Rattle.values.proofs.values.best_score.Tie as tie
 
@@ -23,48 +19,38 @@ Inv-loop cells dropped gains bonuses ins outs values factor k i best₀ o₀ bes
 abbrev μ-loop : tie.MeasureT-loop
 μ-loop cells dropped gains bonuses ins outs values factor k i best₀ o₀ best o = outs - o
 
-abbrev entry : tie.In-loop Inv-loop μ-loop → tie.Start Inv-loop μ-loop
-entry c = c .before .before .before .before .before .before .before
+-- the places that the needs look back to
+abbrev entry : tie.At-loop Inv-loop μ-loop → tie.Start Inv-loop μ-loop
+entry c = c .before .before .before .before .before .before
+
+abbrev turn : tie.After-next-of Inv-loop μ-loop → tie.In-loop Inv-loop μ-loop
+turn c = c .before .before .before
 
 abbrev game : tie.Start Inv-loop μ-loop → Game
 game s = gameOf (s .args .cells .now) (s .args .dropped .now) (s .args .gains .now) (s .args .bonuses .now) (s .args .ins) (s .args .outs)
 
--- the cell of output o
-row : (c : tie.In-loop Inv-loop μ-loop) → InRow (entry c .args .ins) (entry c .args .outs) (entry c .args .k) (entry c .args .i) (c .before .loop .o)
-row c =
-    let r = entry c .pre .0 in in-row (steps-of (r .sized)) (omega arith) (r .state) (entry c .pre .1) (c .loop-test .taken)
-
-leads : (c : tie.In-loop Inv-loop μ-loop)
-    → CellLeads (entry c .args .cells .now) (entry c .args .dropped .now)
-    (cellAt (entry c .args .ins) (entry c .args .outs) (entry c .args .k) (entry c .args .i) (c .before .loop .o))
-leads c =
-    let r = entry c .pre .0 in
-    leads-at (steps-of (r .sized)) (entered (r .sized) (r .state)) (entry c .pre .1) (c .loop-test .taken) refl
-
-letter : (c : tie.In-loop Inv-loop μ-loop)
-    → entry c .args .i + entry c .args .ins * c .before .loop .o < length (entry c .args .bonuses .now)
-letter c =
-    let s = entry c in
-    omega (arith, cell-letter-low (s .pre .1) (c .loop-test .taken), s .pre .0 .sized .bonuses)
+-- what reading output o's cell asks
+reads : (c : tie.In-loop Inv-loop μ-loop) → let s = entry (c .before) in Asked (game s) (s .args .k) (s .args .i) (c .before .loop .o)
+reads c = let p = entry (c .before) .pre in asked (p .0) _ (p .1) (omega arith) (c .loop-test .taken)
 
 loop-holds : tie.Need-loop-holds Inv-loop μ-loop
 loop-holds c = (omega arith, sym (top-none _ _))
 
 may-give-requires : tie.Need-may-give-requires Inv-loop μ-loop
-may-give-requires c κs = (row c, leads c)
+may-give-requires c κs = (reads c .row, reads c .leads)
 
 next-of-requires : tie.Need-next-of-requires Inv-loop μ-loop
-next-of-requires c κs = (row (c .before .before), leads (c .before .before) .within)
+next-of-requires c κs = let r = reads (c .before .before) in (r .row, r .leads .within)
 
 mul-score-of : tie.Need-mul-score-of Inv-loop μ-loop
-mul-score-of c = omega (arith, letter (c .before .before .before))
+mul-score-of c = omega (arith, reads (turn c) .letter)
 
 add-score-of : tie.Need-add-score-of Inv-loop μ-loop
-add-score-of c = omega (arith, letter (c .before .before .before))
+add-score-of c = omega (arith, reads (turn c) .letter)
 
 score-of-requires : tie.Need-score-of-requires Inv-loop μ-loop
-score-of-requires c κs = let i = c .before .before .before in
-    scorable (entry i .pre .0) _ (entry i .pre .1) (i .loop-test .taken)
+score-of-requires c κs = let p = entry (turn c .before) .pre in
+    scorable (p .0) _ (p .1) (turn c .loop-test .taken)
     (said (c .before .before .may-give .ensures) (c .before .if1 .taken)) (c .next-of .ensures)
 
 larger-requires : tie.Need-larger-requires Inv-loop μ-loop
@@ -78,7 +64,7 @@ loop-less c = omega arith
 
 loop-again : tie.Need-loop-again Inv-loop μ-loop
 loop-again c = let i = c .before .before in
-    let g = game (entry i) in (
+    let g = game (entry (i .before)) in (
       omega arith,
       ⊎-elim
           (λ w. best-more g _ _ _ _ _ (said (c .before .may-give .ensures) (w .0 .taken)) (w .1 .ensures) (w .2 .ensures)
@@ -88,7 +74,7 @@ loop-again c = let i = c .before .before in
     )
 
 returns : tie.Need-returns Inv-loop μ-loop
-returns c = let e : c .before .loop .o ≡ c .before .before .before .before .before .before .before .args .outs = omega arith in
+returns c = let e : c .before .loop .o ≡ entry (c .before) .args .outs = omega arith in
     c .before .loop .inv .1 ∙ rw e
 
 pub best-score-spec : {M : Type 1} → statement M

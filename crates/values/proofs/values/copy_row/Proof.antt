@@ -1,11 +1,11 @@
 -- `values::values::copy_row`: the values before k are those of `next`. Assumes nothing.
-use mathlib.Core.Path.{_≡_, sym, _∙_}
+use mathlib.Core.Path.{_≡_, refl, sym, _∙_}
 use Prim.Native.Nat.{_-_, _≤_}
 use native.Mathlib.Omega.{arith}
 use borrow.Author.Needs.{needs}
 use lib.ListN.{getD}
 use Rattle.records.specs.Model.Lists.{put}
-use Rattle.records.specs.Laws.Lists.{put-none, put-more, length-put}
+use Rattle.records.specs.Laws.Lists.{put-none, put-next, length-put}
 use Rattle.values.proofs.values.copy_row.Statement.{statement}
 use Rattle.values.proofs.values.copy_row.Tie as tie
 
@@ -14,6 +14,10 @@ Inv-loop values₀ next n k₀ values k = (k ≤ n) × (values ≡ put values₀
 
 abbrev μ-loop : tie.MeasureT-loop
 μ-loop values₀ next n k₀ values k = n - k
+
+-- the place that the needs look back to
+abbrev turn : tie.After-shared-slice-known Inv-loop μ-loop → tie.At-loop Inv-loop μ-loop
+turn c = c .before .before
 
 loop-holds : tie.Need-loop-holds Inv-loop μ-loop
 loop-holds c = (omega arith, sym (put-none _ _))
@@ -28,7 +32,7 @@ mul-values-2 : tie.Need-mul-values-2 Inv-loop μ-loop
 mul-values-2 c = search needs
 
 slice-write-values : tie.Need-slice-write-values Inv-loop μ-loop
-slice-write-values c = rw (c .before .before .loop .inv .1, length-put) (omega arith)
+slice-write-values c = rw (turn c .loop .inv .1, length-put) (omega arith)
 
 add-k : tie.Need-add-k Inv-loop μ-loop
 add-k c = omega arith
@@ -37,7 +41,7 @@ loop-less : tie.Need-loop-less Inv-loop μ-loop
 loop-less c = omega arith
 
 loop-again : tie.Need-loop-again Inv-loop μ-loop
-loop-again c = (omega arith, rw (c .before .before .loop .inv .1) (put-more _ _ (λ j. getD (c .before .before .before .args .next .now) j 0)))
+loop-again c = (omega arith, put-next _ _ _ (turn c .loop .inv .1) refl)
 
 same-length : tie.Need-same-length Inv-loop μ-loop
 same-length c = rw (c .before .loop .inv .1, length-put)

@@ -14,8 +14,8 @@ entry c = c .before .before
 
 -- what the step earns along all words
 earned : (c : tie.After-shared-slice-known2)
-    → (getD (entry c .args .gains .now) (entry c .args .to) 0 + getD (entry c .args .bonuses .now) (entry c .args .letter) 0) * entry c .args .factor
-    ≤ 2295 * 2 ^ 24
+    → let a = entry c .args in
+    (getD (a .gains .now) (a .to) 0 + getD (a .bonuses .now) (a .letter) 0) * a .factor ≤ 2295 * 2 ^ 24
 earned c =
     let p = entry c .pre in
     mul-le-mul {n₂ = 2295} {m₂ = 2 ^ 24} (omega (arith, p .gain, p .bonus)) (p .factor-most)

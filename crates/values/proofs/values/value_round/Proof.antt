@@ -4,7 +4,7 @@ use Prim.Native.Nat.{_-_, _≤_}
 use native.Mathlib.Omega.{arith}
 use borrow.Author.Needs.{needs}
 use Rattle.records.specs.Model.Lists.{put}
-use Rattle.records.specs.Laws.Lists.{put-none, put-more, length-put}
+use Rattle.records.specs.Laws.Lists.{put-none, put-next, length-put}
 use Rattle.values.specs.Model.Values.{worth}
 use Rattle.values.specs.Model.Sizes.{gameOf}
 use Rattle.values.proofs.values.value_round.Statement.{statement}
@@ -17,8 +17,12 @@ Inv-loop cells dropped gains bonuses ins outs n values next₀ factor k₀ next 
 abbrev μ-loop : tie.MeasureT-loop
 μ-loop cells dropped gains bonuses ins outs n values next₀ factor k₀ next k = n - k
 
+-- the places that the needs look back to
 abbrev entry : tie.At-loop Inv-loop μ-loop → tie.Start Inv-loop μ-loop
 entry c = c .before .before .before .before .before .before .before
+
+abbrev turn : tie.After-worth-of Inv-loop μ-loop → tie.At-loop Inv-loop μ-loop
+turn c = c .before .before
 
 loop-holds : tie.Need-loop-holds Inv-loop μ-loop
 loop-holds c = (omega arith, sym (put-none _ _))
@@ -31,7 +35,7 @@ mul-next : tie.Need-mul-next Inv-loop μ-loop
 mul-next c = search needs
 
 slice-write-next : tie.Need-slice-write-next Inv-loop μ-loop
-slice-write-next c = rw (c .before .before .loop .inv .1, length-put) (omega (arith, entry (c .before .before) .pre .1 .1))
+slice-write-next c = rw (turn c .loop .inv .1, length-put) (omega (arith, entry (turn c) .pre .1 .1))
 
 add-k : tie.Need-add-k Inv-loop μ-loop
 add-k c = omega arith
@@ -40,7 +44,7 @@ loop-less : tie.Need-loop-less Inv-loop μ-loop
 loop-less c = omega arith
 
 loop-again : tie.Need-loop-again Inv-loop μ-loop
-loop-again c = (omega arith, rw (c .before .before .loop .inv .1, c .worth-of .ensures) (put-more _ _ _))
+loop-again c = (omega arith, put-next _ _ _ (turn c .loop .inv .1) (c .worth-of .ensures))
 
 same-length : tie.Need-same-length Inv-loop μ-loop
 same-length c = rw (c .before .loop .inv .1, length-put)

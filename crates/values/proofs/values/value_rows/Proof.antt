@@ -16,15 +16,24 @@ Inv-loop cells dropped gains bonuses ins outs n values₀ next₀ horizon factor
 abbrev μ-loop : tie.MeasureT-loop
 μ-loop cells dropped gains bonuses ins outs n values₀ next₀ horizon factor₀ p₀ values next factor p = horizon - p
 
--- the places: the function's start, the cleared row, and the head of a turn
+-- the places that the needs look back to
 abbrev entry : tie.After-clear-front64 Inv-loop μ-loop → tie.Start Inv-loop μ-loop
 entry c = c .before .before .before .before .before .before .before .before
 
 abbrev cleared : tie.At-loop Inv-loop μ-loop → tie.After-clear-front64 Inv-loop μ-loop
 cleared c = c .before .before .before
 
-abbrev head : tie.After-copy-row Inv-loop μ-loop → tie.At-loop Inv-loop μ-loop
-head c = c .before .before .before .before .before .before .before .before .before
+abbrev head : tie.After-value-round-arg2 Inv-loop μ-loop → tie.At-loop Inv-loop μ-loop
+head c = c .before .before .before
+
+abbrev turn : tie.After-value-round Inv-loop μ-loop → tie.In-loop Inv-loop μ-loop
+turn c = c .before .before .before
+
+abbrev rounded : tie.After-copy-row-arg2 Inv-loop μ-loop → tie.After-value-round Inv-loop μ-loop
+rounded c = c .before .before .before .before
+
+abbrev copied : tie.After-slice-known5 Inv-loop μ-loop → tie.After-copy-row Inv-loop μ-loop
+copied c = c .before .before
 
 abbrev game : tie.Start Inv-loop μ-loop → Game
 game s = gameOf (s .args .cells .now) (s .args .dropped .now) (s .args .gains .now) (s .args .bonuses .now) (s .args .ins) (s .args .outs)
@@ -51,19 +60,21 @@ loop-holds : tie.Need-loop-holds Inv-loop μ-loop
 loop-holds c = begin _ _ _ _ _ (c .before .before .clear-front64 .ensures)
 
 value-round-requires : tie.Need-value-round-requires Inv-loop μ-loop
-value-round-requires c κs = let h = c .before .before .before in
+value-round-requires c κs = let h = head c in
     let f = fits (cleared h) in
     (f .sized, (valued f (h .loop .inv), spare h))
 
 copy-row-requires : tie.Need-copy-row-requires Inv-loop μ-loop
-copy-row-requires c κs = let h = c .before .before .before .before .before .before .before .before in
+copy-row-requires c κs = let v = rounded c in
+    let h = head (v .before) in
     let f = fits (cleared h) in (
       omega (arith, same f (h .loop .inv), f .rows),
-      omega (arith, spare h, c .before .before .before .before .value-round .kept .1 .1 .1 .1 .1 .1 .1 .1 .0),
+      omega (arith, spare h, v .value-round .kept .1 .1 .1 .1 .1 .1 .1 .1 .0),
     )
 
 mul-factor : tie.Need-mul-factor Inv-loop μ-loop
-mul-factor c = omega (arith, words-most (fits (cleared (head (c .before .before)))) (head (c .before .before) .loop .inv) (c .before .before .before .before .before .before .before .before .before .before .loop-test .taken))
+mul-factor c = let i = turn (rounded (copied c .before)) in
+    omega (arith, words-most (fits (cleared (i .before))) (i .before .loop .inv) (i .loop-test .taken))
 
 add-p : tie.Need-add-p Inv-loop μ-loop
 add-p c = omega arith
@@ -72,9 +83,9 @@ loop-less : tie.Need-loop-less Inv-loop μ-loop
 loop-less c = omega arith
 
 loop-again : tie.Need-loop-again Inv-loop μ-loop
-loop-again c = let h = head (c .before .before) in
-    more (fits (cleared h)) (h .loop .inv) (c .before .before .before .before .before .before .before .before .before .before .loop-test .taken)
-    (c .before .before .before .before .before .before .before .value-round .ensures) (c .before .before .copy-row .ensures)
+loop-again c = let v = rounded (copied c .before) in
+    let i = turn v in
+    more (fits (cleared (i .before))) (i .before .loop .inv) (i .loop-test .taken) (v .value-round .ensures) (copied c .copy-row .ensures)
 
 same-length : tie.Need-same-length Inv-loop μ-loop
 same-length c = same (fits (cleared (c .before))) (c .before .loop .inv) ∙ cleared (c .before) .clear-front64 .kept .0
