@@ -12,6 +12,7 @@ ghost use mathlib.Core.Path.{_≡_};
 ghost use Prim.Native.Nat.{_^_, _≤_};
 ghost use lib.ListN.{length, getD};
 ghost use lib.Seq.{sets};
+ghost use Rattle.records.specs.Meaning.Limits.{maxInputs};
 ghost use Rattle.records.specs.Meaning.Lists.{cat};
 ghost use Rattle.guard_table.specs.Meaning.GuardTable.{headLength, tableLength, rowAt, entryAt};
 ghost use Rattle.guard_table.specs.Model.Inside.{RowInside};
@@ -94,7 +95,7 @@ pub fn put_rows(
     count: usize,
 )
     requires { ⌜ Tabled (stepsOf (now cells) ins outs) (now choices) (now order) (now numbers) n count ⌝ }
-    requires { ⌜ (ins ≡ 2 ^ lines) × ((lines ≤ 4) × (tableLength lines count ≤ length (now result))) ⌝ }
+    requires { ⌜ (ins ≡ 2 ^ lines) × ((lines ≤ maxInputs) × (tableLength lines count ≤ length (now result))) ⌝ }
     ensures { λ _. ⌜ now (result .exit) ≡ sets (now (result .entry)) headLength (cat count (λ j. guardRowBy lines (stepsOf (now (cells .entry)) ins outs) (now (choices .entry)) (now (numbers .entry)) (getD (now (order .entry)) j 0))) ⌝ }
 {
     let mut j: usize = 0;
@@ -120,7 +121,7 @@ pub fn write(
     count: usize,
 )
     requires { ⌜ Tabled (stepsOf (now cells) ins outs) (now choices) (now order) (now numbers) n count ⌝ }
-    requires { ⌜ (ins ≡ 2 ^ sheet .inputs) × ((sheet .inputs ≤ 4) × (tableLength (sheet .inputs) count ≤ length (now result))) ⌝ }
+    requires { ⌜ (ins ≡ 2 ^ sheet .inputs) × ((sheet .inputs ≤ maxInputs) × (tableLength (sheet .inputs) count ≤ length (now result))) ⌝ }
     ensures { λ _. ⌜ now (result .exit) ≡ sets (now (result .entry)) 0 (tableBy (sheet .mode) (sheet .inputs) (sheet .outputs) horizon count (stepsOf (now (cells .entry)) ins outs) (now (choices .entry)) (now (order .entry)) (now (numbers .entry))) ⌝ }
 {
     put_head(

@@ -8,6 +8,7 @@ use sheet::layout::Sheet;
 ghost use mathlib.Core.Path.{_≡_};
 ghost use mathlib.Core.List.{List};
 ghost use Prim.Native.Nat.{ℕ, _≤_, _<_};
+ghost use Rattle.records.specs.Meaning.Limits.{maxInputs, maxOutputs};
 ghost use Rattle.sheet.specs.Model.Where.{decoded, Fits};
 ghost use Rattle.product.specs.Meaning.Step.{equalLines, softReward, weightOf};
 ghost use Rattle.product.specs.Model.Range.{InRange};
@@ -59,7 +60,7 @@ fn same_line(a: usize, b: usize, j: u8) -> bool
 
 // In how many lines output and proposal are equal.
 pub fn equal_lines(sheet: Sheet, input: usize, output: usize) -> u64
-    requires { ⌜ (sheet .site ≤ 4) × (sheet .outputs ≤ 3) ⌝ }
+    requires { ⌜ (sheet .site ≤ maxInputs) × (sheet .outputs ≤ maxOutputs) ⌝ }
     ensures { λ r. ⌜ ((s : List ℕ) → r ≡ equalLines (decoded s sheet) input output) ⌝ }
 {
     let proposed = proposal_of(sheet, input);
@@ -76,7 +77,7 @@ pub fn equal_lines(sheet: Sheet, input: usize, output: usize) -> u64
 
 // What a shield earns for the lines in which output and proposal are equal.
 pub fn match_reward(sheet: Sheet, input: usize, output: usize) -> u64
-    requires { ⌜ (sheet .site ≤ 4) × (sheet .outputs ≤ 3) ⌝ }
+    requires { ⌜ (sheet .site ≤ maxInputs) × (sheet .outputs ≤ maxOutputs) ⌝ }
     ensures { λ r. ⌜ ((s : List ℕ) → r ≡ matchReward (decoded s sheet) input output) ⌝ }
 {
     if sheet.mode != 1 {

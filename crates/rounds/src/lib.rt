@@ -6,7 +6,7 @@ use records::clear::clear_front16;
 ghost use mathlib.Core.Path.{_≡_};
 ghost use Prim.Native.Nat.{ℕ, _<_, _≤_};
 ghost use lib.ListN.{length, getD};
-ghost use Rattle.records.specs.Meaning.Limits.{maxStates};
+ghost use Rattle.records.specs.Meaning.Limits.{maxStates, maxOuts};
 ghost use Rattle.rounds.specs.Model.TableRounds.{Steps, cellAt, isIn, leadsIn, stays, maskOf, Settled};
 ghost use Rattle.rounds.specs.Laws.CellPlaces.{InRow, CellEntered, CellLeads};
 ghost use Rattle.rounds.specs.Model.InPlace.{atStart, drops, Rounded};
@@ -159,7 +159,7 @@ pub fn mask_of(
 ) -> u8
     requires { ⌜ Steps (now cells) n ins outs ⌝ }
     requires { ⌜ CellEntered (now dropped) n k ⌝ }
-    requires { ⌜ (i < ins) × (outs ≤ 8) ⌝ }
+    requires { ⌜ (i < ins) × (outs ≤ maxOuts) ⌝ }
     ensures { λ r. ⌜ r ≡ maskOf (now (cells .entry)) (now (dropped .entry)) ins outs k i ⌝ }
 {
     if !is_kept(dropped, k) {

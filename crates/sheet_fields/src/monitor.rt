@@ -5,7 +5,7 @@ use records::numbers::pow2;
 ghost use mathlib.Core.Path.{_≡_};
 ghost use Prim.Native.Nat.{_+_, _≤_};
 ghost use lib.ListN.{length};
-ghost use Rattle.records.specs.Meaning.Limits.{maxLines};
+ghost use Rattle.records.specs.Meaning.Limits.{maxLines, maxLetters};
 ghost use Rattle.sheet_fields.specs.Meaning.Lines.{lettersRead};
 ghost use Rattle.sheet_fields.specs.Meaning.Monitor.{roleOk, statesOk, bytesMost};
 
@@ -24,7 +24,7 @@ pub fn role_ok(mode: u8, role: u8, weight: u8) -> bool
 // The letters that a monitor reads.
 pub fn letters_read(role: u8, site: u8, outputs: u8) -> usize
     requires { ⌜ site + outputs ≤ maxLines ⌝ }
-    ensures { λ r. ⌜ (r ≡ lettersRead role site outputs) × (r ≤ 64) ⌝ }
+    ensures { λ r. ⌜ (r ≡ lettersRead role site outputs) × (r ≤ maxLetters) ⌝ }
 {
     match role {
         2 => 4,
@@ -34,7 +34,7 @@ pub fn letters_read(role: u8, site: u8, outputs: u8) -> usize
 
 // Whether states and start are in order, and the body's size is that of as many states and letters.
 pub fn states_ok(states: u8, start: u8, letters: usize, size: usize) -> bool
-    requires { ⌜ letters ≤ 64 ⌝ }
+    requires { ⌜ letters ≤ maxLetters ⌝ }
     ensures { λ r. ⌜ r ≡ statesOk states start letters size ⌝ }
 {
     if states < 1 {

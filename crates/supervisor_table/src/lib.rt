@@ -8,6 +8,7 @@ ghost use mathlib.Core.List.{List, [], _∷_, _++_};
 ghost use Prim.Native.Nat.{_+_, _*_, _≤_, _<_};
 ghost use lib.ListN.{length};
 ghost use lib.Seq.{sets};
+ghost use Rattle.records.specs.Meaning.Limits.{maxIns, maxOuts, maxStates};
 ghost use Rattle.records.specs.Meaning.Lists.{tab, cat};
 ghost use Rattle.records.specs.Meaning.Numbers.{u16Bytes};
 ghost use Rattle.records.specs.Meaning.Records.{header};
@@ -16,7 +17,7 @@ ghost use Rattle.supervisor_table.specs.Model.MaskRows.{keptFlag, maskRo
 
 // The bytes of a row's record.
 pub fn row_length(ins: usize) -> usize
-    requires { ⌜ ins ≤ 16 ⌝ }
+    requires { ⌜ ins ≤ maxIns ⌝ }
     ensures { λ r. ⌜ (r ≡ maskRowLength ins) × (r ≤ 21) ⌝ }
 {
     5 + ins
@@ -24,7 +25,7 @@ pub fn row_length(ins: usize) -> usize
 
 // The bytes of a table with so many states.
 pub fn table_length(ins: usize, count: usize) -> usize
-    requires { ⌜ (ins ≤ 16) × (count ≤ 256) ⌝ }
+    requires { ⌜ (ins ≤ maxIns) × (count ≤ maxStates) ⌝ }
     ensures { λ r. ⌜ r ≡ maskTableLength ins count ⌝ }
 {
     9 + count * row_length(ins)
@@ -54,7 +55,7 @@ pub fn put_masks(
     k: usize,
 )
     requires { ⌜ Steps (now cells) n ins outs ⌝ }
-    requires { ⌜ (n ≤ length (now dropped)) × ((n ≤ 256) × ((ins ≤ 16) × ((outs ≤ 8) × ((k < n) × (at + ins ≤ length (now result)))))) ⌝ }
+    requires { ⌜ (n ≤ length (now dropped)) × ((n ≤ maxStates) × ((ins ≤ maxIns) × ((outs ≤ maxOuts) × ((k < n) × (at + ins ≤ length (now result)))))) ⌝ }
     ensures { λ _. ⌜ now (result .exit) ≡ sets (now (result .entry)) at (tab ins (maskOf (now (cells .entry)) (now (dropped .entry)) ins outs k)) ⌝ }
 {
     let mut i: usize = 0;
@@ -87,7 +88,7 @@ pub fn put_row(
     k: usize,
 )
     requires { ⌜ Steps (now cells) n ins outs ⌝ }
-    requires { ⌜ (n ≤ length (now dropped)) × ((n ≤ 256) × ((ins ≤ 16) × ((outs ≤ 8) × ((k < n) × (at + (5 + ins) ≤ length (now result)))))) ⌝ }
+    requires { ⌜ (n ≤ length (now dropped)) × ((n ≤ maxStates) × ((ins ≤ maxIns) × ((outs ≤ maxOuts) × ((k < n) × (at + (5 + ins) ≤ length (now result)))))) ⌝ }
     ensures { λ _. ⌜ now (result .exit) ≡ sets (now (result .entry)) at (tableRow (now (cells .entry)) (now (dropped .entry)) ins outs k) ⌝ }
 {
     put_header(result, at, (1 + ins) as u16, 18);
@@ -105,7 +106,7 @@ pub fn put_rows(
     outs: usize,
 )
     requires { ⌜ Steps (now cells) n ins outs ⌝ }
-    requires { ⌜ (n ≤ length (now dropped)) × ((n ≤ 256) × ((ins ≤ 16) × ((outs ≤ 8) × (maskTableLength ins n ≤ length (now result))))) ⌝ }
+    requires { ⌜ (n ≤ length (now dropped)) × ((n ≤ maxStates) × ((ins ≤ maxIns) × ((outs ≤ maxOuts) × (maskTableLength ins n ≤ length (now result))))) ⌝ }
     ensures { λ _. ⌜ now (result .exit) ≡ sets (now (result .entry)) 9 (cat n (tableRow (now (cells .entry)) (now (dropped .entry)) ins outs)) ⌝ }
 {
     let size = row_length(ins);

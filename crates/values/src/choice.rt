@@ -6,6 +6,7 @@ use crate::values::score_of;
 ghost use mathlib.Core.Path.{_≡_};
 ghost use Prim.Native.Nat.{_*_, _≤_, _<_};
 ghost use lib.ListN.{length};
+ghost use Rattle.records.specs.Meaning.Limits.{maxOutputs};
 ghost use Rattle.values.specs.Model.Values.{SizedGame, choiceOf, choices};
 ghost use Rattle.values.specs.Model.Sizes.{gameOf, Valued, Ready};
 ghost use Rattle.values.specs.Model.Leaders.{goesBefore, noLeader, challenged, literalsOf};
@@ -79,7 +80,7 @@ pub fn choose_output(
     i: usize,
 ) -> u8
     requires { ⌜ Ready (gameOf (now cells) (now dropped) (now gains) (now bonuses) ins outs) (now values) factor k ⌝ }
-    requires { ⌜ (i < ins) × (count ≤ 3) ⌝ }
+    requires { ⌜ (i < ins) × (count ≤ maxOutputs) ⌝ }
     ensures { λ r. ⌜ r ≡ choiceOf (gameOf (now (cells .entry)) (now (dropped .entry)) (now (gains .entry)) (now (bonuses .entry)) ins outs) (literalsOf literals count) (now (values .entry)) factor k i ⌝ }
 {
     let mut leader = Leader::none();
@@ -114,7 +115,7 @@ pub fn fill_choices(
 )
     requires { ⌜ SizedGame (gameOf (now cells) (now dropped) (now gains) (now bonuses) ins outs) n ⌝ }
     requires { ⌜ Valued n (now values) factor ⌝ }
-    requires { ⌜ (count ≤ 3) × (n * ins ≤ length (now chosen)) ⌝ }
+    requires { ⌜ (count ≤ maxOutputs) × (n * ins ≤ length (now chosen)) ⌝ }
     ensures { λ _. ⌜ now (chosen .exit) ≡ choices (gameOf (now (cells .entry)) (now (dropped .entry)) (now (gains .entry)) (now (bonuses .entry)) ins outs) n (literalsOf literals count) (now (values .entry)) factor (now (chosen .entry)) ⌝ }
 {
     let mut at: usize = 0;

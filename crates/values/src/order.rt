@@ -2,6 +2,7 @@
 use records::numbers::pow2;
 ghost use mathlib.Core.Path.{_≡_};
 ghost use Prim.Native.Nat.{_≤_};
+ghost use Rattle.records.specs.Meaning.Limits.{maxOutputs};
 ghost use Rattle.values.specs.Meaning.Order.{literalHolds};
 ghost use Rattle.values.specs.Model.Rank.{rankBy};
 
@@ -18,7 +19,7 @@ pub fn literal_holds(literal: u8, o: usize) -> bool
 
 // The rank of an output by the first `count` literals: their truths read as a binary number, the first highest.
 pub fn rank_of(literals: [u8; 3], count: usize, o: usize) -> usize
-    requires { ⌜ count ≤ 3 ⌝ }
+    requires { ⌜ count ≤ maxOutputs ⌝ }
     ensures { λ r. ⌜ r ≡ rankBy literals count o ⌝ }
 {
     let mut rank: usize = 0;

@@ -17,7 +17,7 @@ use Rattle.records.specs.Laws.Lists.{tab-eq, cat-at}
 use Rattle.records.specs.Meaning.Numbers.{Bytes, u16At}
 use Rattle.records.specs.Laws.Numbers.{bytes-small, bytes-append, bytes-of, bytes-cat}
 use Rattle.records.specs.Meaning.Records.{sizeAt, kindAt}
-use Rattle.records.specs.Meaning.Limits.{maxLines, maxHorizon, maxMonitorStates, horizonOk}
+use Rattle.records.specs.Meaning.Limits.{maxLines, maxHorizon, maxMonitorStates, horizonOk, maxLetters}
 use Rattle.sheet.specs.Meaning.Decoded.{Automaton, Decoded, noAutomaton, monitorOf, guardLines, inputLines, lettersRead, letters, HeadOk, HorizonOk, MonitorOk, SheetOk, encodeHead, encodeMonitor, encode}
 use Rattle.sheet.specs.Meaning.Grounds.{verdictNumber}
 use Rattle.sheet.specs.Model.Where.{automaton, placed, decoded}
@@ -239,7 +239,7 @@ decode-encode d o = rw (chain-reads (encode d) (length (d .monitors)) (chain d o
 -- ---- they are bytes
 
 -- a monitor reads at most 64 letters
-letters-most : (d : Decoded) → HeadOk d → (a : Automaton) → letters d a ≤ 64
+letters-most : (d : Decoded) → HeadOk d → (a : Automaton) → letters d a ≤ maxLetters
 unfolding lettersRead
 letters-most d o a =
     by-test (eqb (a .role) 2) (λ e. rw e (omega arith))
@@ -266,7 +266,7 @@ bytes-monitor : (d : Decoded) (a : Automaton) → HeadOk d → MonitorOk d a →
 unfolding encodeMonitor
 bytes-monitor d a h o =
     let n : ℕ = 4 + length (a .accept) + length (a .accept) * letters d a in
-    let most : length (a .accept) * letters d a ≤ maxMonitorStates * 64 = mul-le-mul (o .states-most) (letters-most d h a) in
+    let most : length (a .accept) * letters d a ≤ maxMonitorStates * maxLetters = mul-le-mul (o .states-most) (letters-most d h a) in
     bytes-append (n % 256 ∷ n / 256 ∷ 2 ∷ 0 ∷ a .role ∷ a .weight ∷ length (a .accept) ∷ a .start ∷ []) (a .accept ++ rowBytes a)
     (bytes-small (n % 256 ∷ n / 256 ∷ 2 ∷ 0 ∷ a .role ∷ a .weight ∷ length (a .accept) ∷ a .start ∷ []) (omega arith))
     (bytes-append (a .accept) (rowBytes a)

@@ -13,6 +13,7 @@ use lib.Dec.{ltb, eqb}
 use lib.ListN.{length, getD}
 use lib.Pow.{pow-mono}
 use borrow.Author.Tests.{eqb-true, eqb-false}
+use Rattle.records.specs.Meaning.Limits.{maxOutputs, maxOuts}
 use Rattle.records.specs.Laws.Tests.{by-test}
 use Rattle.records.specs.Laws.Bounded.{cases-suc}
 use Rattle.records.specs.Laws.Bits.{same-bits}
@@ -57,7 +58,7 @@ module _ (literals : List ℕ) where
   rank-low (suc n) o = omega (arith, rank-low n o, digit-low (literalHolds (getD literals n 0) o), pow-suc 2 n)
 
   -- three literals give ranks below 8
-  pub rank-small : (n o r : ℕ) → r ≡ rankBy literals n o → n ≤ 3 → r < 8
+  pub rank-small : (n o r : ℕ) → r ≡ rankBy literals n o → n ≤ maxOutputs → r < maxOuts
   rank-small n o r e h = let most : 2 ^ n ≤ 2 ^ 3 = pow-mono {j = 3} h in omega (arith, rank-low n o)
 
   -- the literals before n hold of both outputs or of neither

@@ -7,7 +7,7 @@ use mathlib.Core.Bool.{Bool, false, cond}
 use mathlib.Core.List.{List}
 use Prim.Native.Nat.{ℕ, zero, suc, _+_, _*_, _/_, _%_, _^_, _≤_, _<_}
 use lib.ListN.{length, getD}
-use Rattle.records.specs.Meaning.Limits.{maxStates}
+use Rattle.records.specs.Meaning.Limits.{maxStates, maxIns, maxOuts}
 use Rattle.records.specs.Meaning.Bounded.{sum}
 use Rattle.records.specs.Model.Bounded.{top}
 use Rattle.records.specs.Model.Lists.{put}
@@ -63,9 +63,9 @@ choices g n literals values factor memory =
 -- the sizes and bounds that the code relies on
 pub record SizedGame (g : Game) (n : ℕ) : Type 0 where
   pub inputs-least : 1 ≤ g .ins
-  pub inputs-most : g .ins ≤ 16
+  pub inputs-most : g .ins ≤ maxIns
   pub outputs-least : 1 ≤ g .outs
-  pub outputs-most : g .outs ≤ 8
+  pub outputs-most : g .outs ≤ maxOuts
   pub states : n ≤ maxStates
   pub rows : n * (g .ins * g .outs) ≤ length (g .cells)
   pub inside : (at : ℕ) → at < n * (g .ins * g .outs) → isBroken (getD (g .cells) at 0) ≡ false → getD (g .cells) at 0 < n
