@@ -3,6 +3,13 @@ use borrow.Author.Needs.{needs}
 use Rattle.hundlezoqa_c.proofs.hz_make_supervisor.Statement.{statement}
 use Rattle.hundlezoqa_c.proofs.hz_make_supervisor.Tie as tie
 
+-- the places that the promise looks back to
+abbrev told : tie.After-slice-known10 → tie.After-report
+told c = c .before .before
+
+abbrev called : tie.After-report → tie.After-make
+called c = c .before .before .before .before .before .before .before .before .before .before
+
 make-requires : tie.Need-make-requires
 make-requires c κs = search needs
 
@@ -26,15 +33,15 @@ same-length-5 c = search needs
 
 returns : tie.Need-returns
 returns c =
-    let told = c .before .before in
-    let called = told .before .before .before .before .before .before .before .before .before .before in (
+    let reported = told c in
+    let done = called reported in (
       record {
-        made = called .make .result;
-        promised = called .make .ensures .0;
-        number = told .report .ensures .0;
-        figures = told .report .ensures .1;
+        made = done .make .result;
+        promised = done .make .ensures .0;
+        number = reported .report .ensures .0;
+        figures = reported .report .ensures .1;
       },
-      called .make .ensures .1,
+      done .make .ensures .1,
     )
 
 pub hz-make-supervisor-spec : {M : Type 1} → statement M

@@ -6,6 +6,10 @@ use borrow.Author.Needs.{needs}
 use Rattle.listing.proofs.print.Statement.{statement}
 use Rattle.listing.proofs.print.Tie as tie
 
+-- the place that the promise looks back to
+abbrev told : tie.After-written → tie.After-too-long
+told c = c .before .before .before
+
 too-long-requires : tie.Need-too-long-requires
 too-long-requires c κs = search needs
 
@@ -16,7 +20,7 @@ same-length : tie.Need-same-length
 same-length c = search needs
 
 returns : tie.Need-returns
-returns c = prints-long _ (omega arith) (writes-prints (c .before .before .before .too-long .ensures) refl (omega arith) refl (c .written .ensures))
+returns c = prints-long _ (omega arith) (writes-prints (told c .too-long .ensures) refl (omega arith) refl (c .written .ensures))
 
 print-guard-requires : tie.Need-print-guard-requires
 print-guard-requires c κs = search needs

@@ -9,6 +9,9 @@ use Rattle.listing.proofs.print_guard.Statement.{statement}
 use Rattle.listing.proofs.print_guard.Tie as tie
 
 -- the places that the promise looks back to
+abbrev reported : tie.After-written → tie.After-outcome
+reported c = c .before .before .before
+
 abbrev made : tie.After-outcome → tie.After-make
 made c = c .before .before .before .before .before .before .before .before .before .before .before .before .before .before
 
@@ -66,7 +69,7 @@ same-length c = search needs
 returns : tie.Need-returns
 unfolding exactly
 returns c =
-    let told = c .before .before .before in
+    let told = reported c in
     let done = made told in
     outcome-prints {lent = exactly guardWork} (done .make .ensures .0) (λ k. omega (arith, entered done .shared-slice-known .given k)) refl (refl {a = exactly guardWork})
     (omega (arith, entered done .before .pre)) (told .outcome .ensures) (c .written .ensures)

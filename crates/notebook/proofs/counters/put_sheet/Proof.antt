@@ -16,8 +16,11 @@ abbrev μ-loop : tie.MeasureT-loop
 μ-loop sheet₀ n m size k₀ sheet k = size - k
 
 -- the place that the loop's needs look back to
+abbrev begun : tie.At-loop Inv-loop μ-loop → tie.Start Inv-loop μ-loop
+begun c = c .before .before
+
 abbrev entry : tie.After-sheet-byte Inv-loop μ-loop → tie.Start Inv-loop μ-loop
-entry c = c .before .before .before .before
+entry c = begun (c .before .before)
 
 mul-size : tie.Need-mul-size Inv-loop μ-loop
 mul-size c = omega arith
@@ -58,7 +61,7 @@ same-length c = same (c .before .loop .inv .1)
 
 returns : tie.Need-returns Inv-loop μ-loop
 unfolding sheetBytes
-returns c = let a = c .before .before .before .args in
+returns c = let a = begun (c .before) .args in
     (all (c .before .loop .inv .1) (omega arith), sym (length-sheet (a .n) (a .m)))
 
 pub put-sheet-spec : {M : Type 1} → statement M

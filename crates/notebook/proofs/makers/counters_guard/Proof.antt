@@ -14,6 +14,9 @@ use Rattle.notebook.proofs.makers.counters_guard.Tie as tie
 abbrev entry : tie.After-put-sheet → tie.Start
 entry c = c .before .before
 
+abbrev put : tie.After-guard-of → tie.After-put-sheet
+put c = c .before .before .before
+
 bytes : (c : tie.After-put-sheet) → Written (c .put-sheet .result) (c .put-sheet .last .0) (sheetBytes (entry c .args .n) (entry c .args .m))
 bytes c = written (entry c .args .n) (entry c .args .m) (entry c .pre .0) (entry c .pre .1) (c .put-sheet .ensures)
 
@@ -34,7 +37,7 @@ guard-of-requires c κs = tt
 
 returns : tie.Need-returns
 returns c =
-    subst (λ (s : List ℕ). Answered guardTableOf statesOf s 2048 (c .guard-of .result)) (bytes (c .before .before .before) .part) (c .guard-of .ensures)
+    subst (λ (s : List ℕ). Answered guardTableOf statesOf s 2048 (c .guard-of .result)) (bytes (put c) .part) (c .guard-of .ensures)
 
 pub counters-guard-spec : {M : Type 1} → statement M
 counters-guard-spec =

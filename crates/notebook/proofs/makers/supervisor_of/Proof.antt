@@ -5,6 +5,10 @@ use Rattle.notebook.proofs.Answers.{zeros-length, supervisor-answered}
 use Rattle.notebook.proofs.makers.supervisor_of.Statement.{statement}
 use Rattle.notebook.proofs.makers.supervisor_of.Tie as tie
 
+-- the place that the promise looks back to
+abbrev made : tie.After-dropped2 → tie.After-make
+made c = c .before .before .before .before
+
 slice-aggregate-make : tie.Need-slice-aggregate-make
 slice-aggregate-make c = sym (zeros-length 2048)
 
@@ -23,7 +27,7 @@ make-requires c κs = tt
 returns : tie.Need-returns
 unfolding exactly
 returns c =
-    supervisor-answered (c .before .before .before .before .make .ensures .0) (simp zeros-length) (zeros-length 2048)
+    supervisor-answered (made c .make .ensures .0) (simp zeros-length) (zeros-length 2048)
 
 pub supervisor-of-spec : {M : Type 1} → statement M
 supervisor-of-spec =

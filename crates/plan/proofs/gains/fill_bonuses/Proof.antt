@@ -27,8 +27,11 @@ abbrev μ-loop : tie.MeasureT-loop
 μ-loop sheet bonuses₀ ins outs l₀ bonuses l = ins * outs - l
 
 -- the places that the needs look back to
+abbrev begun : tie.At-loop Inv-loop μ-loop → tie.Start Inv-loop μ-loop
+begun c = c .before .before
+
 abbrev entry : tie.In-loop Inv-loop μ-loop → tie.Start Inv-loop μ-loop
-entry c = c .before .before .before
+entry c = begun (c .before)
 
 abbrev turn : tie.After-match-reward Inv-loop μ-loop → tie.At-loop Inv-loop μ-loop
 turn c = c .before .before
@@ -80,7 +83,7 @@ same-length : tie.Need-same-length Inv-loop μ-loop
 same-length c = room (c .before)
 
 returns : tie.Need-returns Inv-loop μ-loop
-returns c = let a = c .before .before .before .args in
+returns c = let a = begun (c .before) .args in
     let e : c .before .loop .l ≡ a .ins * a .outs = omega arith in λ s. c .before .loop .inv .1 s ∙ rw e
 
 pub fill-bonuses-spec : {M : Type 1} → statement M
