@@ -5,3 +5,4 @@ pub mod Ordered
 pub mod Range
 pub mod Rewards
 pub mod Tuples
+pub mod Counts

@@ -18,7 +18,7 @@ use Rattle.supervisor_table.specs.Model.MaskRows.{tableRow, maskTableLength}
 use Rattle.supervisor.specs.Model.SupervisorOfSheet.{supervisorTable}
 use Rattle.solve.specs.Model.Solve.{Solution}
 use Rattle.solve.specs.Model.Making.{Judges}
-use Rattle.solve.specs.Laws.Solving.{layout-inputs}
+use Rattle.product.specs.Laws.Counts.{layout-inputs}
 use Rattle.supervisor.proofs.Promise.{solved-short, layout-made}
 use Rattle.solve.specs.declared.made.Made.the-variants.{Table, Refused}
 

@@ -30,7 +30,7 @@ use Rattle.solve.specs.Model.Making.{Judges, Answers}
 use Rattle.solve.specs.Promises.Making.{Makes}
 use Rattle.supervisor.specs.Promises.SupervisorMaker.{supervisorWork, Means, MakesSupervisor}
 use Rattle.supervisor.specs.Laws.Bytes.{length-table}
-use Rattle.solve.specs.Laws.Solving.{layout-inputs, layout-outputs}
+use Rattle.product.specs.Laws.Counts.{layout-inputs, layout-outputs}
 use Rattle.supervisor.proofs.TableSolved.{layout-head, solution-table}
 use Rattle.supervisor.specs.Laws.Permissive.{means}
 use Rattle.supervisor.proofs.Only.{only-table}

@@ -25,7 +25,7 @@ use Rattle.rounds.specs.Model.TableRounds.{isIn}
 use Rattle.rounds.specs.Laws.SameRounds.{in-agree}
 use Rattle.solve.specs.Model.Steps.{droppedOf}
 use Rattle.solve.specs.Model.Solve.{Solution}
-use Rattle.solve.specs.Laws.Solving.{inputs-most, outputs-most, letters-most, layout-inputs, layout-outputs}
+use Rattle.product.specs.Laws.Counts.{inputs-most, outputs-most, letters-most, layout-inputs, layout-outputs}
 use Rattle.values.specs.Model.Values.{Game, SizedGame, valueRow}
 use Rattle.values.specs.Model.Sizes.{Valued}
 use Rattle.values.specs.Model.Sizes as sizes

@@ -30,7 +30,8 @@ use Rattle.game.specs.Model.Numbering.{find}
 use Rattle.rounds.specs.Model.TableRounds.{Steps, isIn}
 use Rattle.solve.specs.Model.Steps.{droppedOf}
 use Rattle.solve.specs.Model.Solve.{Solution}
-use Rattle.solve.specs.Laws.Solving.{inputs-most, outputs-most, letters-most, cells-most, cells-agree, numbering-steps}
+use Rattle.product.specs.Laws.Counts.{inputs-most, outputs-most, letters-most, cells-most}
+use Rattle.solve.specs.Laws.Solving.{cells-agree, numbering-steps}
 use Rattle.values.specs.Model.Values.{Game, SizedGame}
 use Rattle.values.specs.Model.GuardStates.{chosen, follows}
 use Rattle.plan.specs.Model.GuardOfSheet as table

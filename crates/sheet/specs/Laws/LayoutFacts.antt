@@ -42,9 +42,18 @@ module _ {s : List ℕ} {h : Sheet} (f : Fits s h) where
   unfolding decoded
   site-most = f .ok .head .site
 
-  pub outputs-most : h .outputs ≤ maxOutputs
+  -- the guard's lines
+  pub inputs-low : h .inputs ≤ maxInputs
   unfolding decoded
-  outputs-most = f .ok .head .outputs-most
+  inputs-low = omega (arith, f .inputs, f .ok .head .inputs)
+
+  pub outputs-low : h .outputs ≤ maxOutputs
+  unfolding decoded
+  outputs-low = f .ok .head .outputs-most
+
+  pub lines-low : h .inputs + h .outputs ≤ maxLines
+  unfolding decoded
+  lines-low = omega (arith, f .inputs, f .ok .head .lines)
 
   -- the lines that a monitor's letters are made of
   pub lines-most : h .site + h .outputs ≤ maxLines

@@ -1,5 +1,5 @@
 -- `plan::gains::fill_bonuses`: the bonuses of the letters before l are stored. Assumes nothing.
-use Rattle.sheet.specs.Laws.LayoutFacts.{site-most, outputs-most}
+use Rattle.sheet.specs.Laws.LayoutFacts.{site-most, outputs-low}
 use mathlib.Core.Path.{_≡_, sym, ap₂, _∙_}
 use mathlib.Core.List.{List, []}
 use Prim.Native.Nat.{ℕ, _-_, _*_, _/_, _%_, _≤_}
@@ -57,7 +57,7 @@ div-match-reward : tie.Need-div-match-reward Inv-loop μ-loop
 div-match-reward c = omega arith
 
 match-reward-requires : tie.Need-match-reward-requires Inv-loop μ-loop
-match-reward-requires c κs = (site-most (entry c .pre .0 .1), outputs-most (entry c .pre .0 .1))
+match-reward-requires c κs = (site-most (entry c .pre .0 .1), outputs-low (entry c .pre .0 .1))
 
 cast-bonuses : tie.Need-cast-bonuses Inv-loop μ-loop
 cast-bonuses c = let s = entry (c .before) in

@@ -8,7 +8,7 @@ use Rattle.guard_rows.specs.Laws.Entered.{count-most}
 use Rattle.plan.specs.Model.GuardOfSheet.{ownHorizon, guardTableOf, statesOf}
 use Rattle.plan.specs.Model.Planned.{Room}
 use Rattle.plan.specs.Laws.Planned.{playable, own-horizon, horizon-in-bounds}
-use Rattle.solve.specs.Laws.Solving.{inputs-low, outputs-low}
+use Rattle.sheet.specs.Laws.LayoutFacts.{inputs-low, outputs-low}
 use Rattle.solve.specs.Model.Opening.{Opened, Opens}
 use Rattle.plan.specs.Laws.Answered.{layout-short, layout-written}
 use borrow.Author.Needs.{needs}

@@ -8,7 +8,9 @@ use Rattle.sheet.specs.declared.layout.Verdict.{Verdict}
 use Rattle.product.specs.Model.ProductNumbering.{stateCount, cellsLength}
 use Rattle.supervisor_table.specs.Model.MaskRows.{maskTableLength}
 use Rattle.solve.specs.Model.Opening.{Opened, Opens}
-use Rattle.solve.specs.Laws.Solving.{inputs-low, outputs-low, few-inputs, few-outputs, layout-steps}
+use Rattle.sheet.specs.Laws.LayoutFacts.{inputs-low, outputs-low}
+use Rattle.product.specs.Laws.Counts.{few-inputs, few-outputs}
+use Rattle.solve.specs.Laws.Solving.{layout-steps}
 use Rattle.supervisor.specs.Model.SupervisorOfSheet.{supervisorTable}
 use Rattle.supervisor.proofs.Layouts.{layout-short, layout-written}
 use borrow.Author.Needs.{needs}
