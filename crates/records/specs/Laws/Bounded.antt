@@ -9,7 +9,7 @@ use native.Mathlib.Decide.{decLt}
 use native.Mathlib.Omega.{arith}
 use Rattle.records.specs.Laws.Tests.{both-ways, and-left, and-right, and-both, and-not, or-cases, or-left, or-right}
 use Rattle.records.specs.Meaning.Bounded.{all, any, count, sum}
-use Rattle.records.specs.Model.Bounded.{first, top}
+use Rattle.records.specs.Model.Bounded.{least, top}
 
 -- a number below n + 1 is below n, or is n
 pub cases-suc {ℓ} : {X : Type ℓ} (i n : ℕ) → i < suc n → (i < n → X) → (i ≡ n → X) → X
@@ -88,18 +88,18 @@ unfolding any
 any-cong zero p q e = refl
 any-cong (suc n) p q e = ap₂ _||_ (any-cong n p q (λ i h. e i (omega arith))) (e n (omega arith))
 
-pub first-hit : (n : ℕ) (p : ℕ → Bool) (k : ℕ) → k < n → ((j : ℕ) → j < k → p j ≡ false) → p k ≡ true → first n p ≡ k
-unfolding first
-first-hit zero p k l h e = absurd (not-suc-le-zero l)
-first-hit (suc n) p zero l h e = rw e
-first-hit (suc n) p (suc k) l h e =
+pub least-hit : (n : ℕ) (p : ℕ → Bool) (k : ℕ) → k < n → ((j : ℕ) → j < k → p j ≡ false) → p k ≡ true → least n p ≡ k
+unfolding least
+least-hit zero p k l h e = absurd (not-suc-le-zero l)
+least-hit (suc n) p zero l h e = rw e
+least-hit (suc n) p (suc k) l h e =
     rw (h 0 (omega arith))
-    (ap suc (first-hit n (λ j. p (suc j)) k (le-of-suc-le-suc l) (λ j m. h (suc j) (suc-le-suc m)) e))
+    (ap suc (least-hit n (λ j. p (suc j)) k (le-of-suc-le-suc l) (λ j m. h (suc j) (suc-le-suc m)) e))
 
-pub first-none : (n : ℕ) (p : ℕ → Bool) → ((j : ℕ) → j < n → p j ≡ false) → first n p ≡ n
-unfolding first
-first-none zero p h = refl
-first-none (suc n) p h = rw (h 0 (omega arith)) (ap suc (first-none n (λ j. p (suc j)) (λ j m. h (suc j) (suc-le-suc m))))
+pub least-none : (n : ℕ) (p : ℕ → Bool) → ((j : ℕ) → j < n → p j ≡ false) → least n p ≡ n
+unfolding least
+least-none zero p h = refl
+least-none (suc n) p h = rw (h 0 (omega arith)) (ap suc (least-none n (λ j. p (suc j)) (λ j m. h (suc j) (suc-le-suc m))))
 
 pub count-none : (p : ℕ → Bool) → count 0 p ≡ 0
 unfolding count

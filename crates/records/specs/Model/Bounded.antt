@@ -1,14 +1,14 @@
--- The first number below a bound that passes a test, and the largest score of those that pass.
+-- The least number below a bound that passes a test, and the largest score of those that pass.
 -- Assumes nothing.
 use mathlib.Core.Bool.{Bool, cond}
 use Prim.Native.Nat.{ℕ, zero, suc, max}
 
--- ---- the first
+-- ---- the least
 
 -- the least number below n that passes the test, or n
-unfoldable pub first : ℕ → (ℕ → Bool) → ℕ
-first zero p = 0
-first (suc n) p = cond (p 0) 0 (suc (first n (λ k. p (suc k))))
+unfoldable pub least : ℕ → (ℕ → Bool) → ℕ
+least zero p = 0
+least (suc n) p = cond (p 0) 0 (suc (least n (λ k. p (suc k))))
 
 -- ---- the largest
 
