@@ -1,3 +1,3 @@
 -- What the public calls promise.
 pub mod Making
-pub mod Work
+pub mod OpeningWork

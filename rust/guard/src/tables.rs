@@ -1,8 +1,7 @@
 use crate::calls::{self, FIGURES};
+use crate::work::{INPUTS_MOST, STATES_MOST};
 use crate::{Refusal, Work};
 
-const STATES_MOST: usize = 256;
-const INPUTS_MOST: usize = 16;
 const HEADER: usize = 4;
 
 /// What a maker wrote into the result memory it was lent.

@@ -1,3 +1,9 @@
+// Product states, letters and inputs at most, and the places of a tuple: every size here is made from these.
+pub(crate) const STATES_MOST: usize = 256;
+pub(crate) const INPUTS_MOST: usize = 16;
+const LETTERS_MOST: usize = 64;
+const PLACES: usize = 12;
+
 /// The work memory that the makers are lent.
 ///
 /// It may hold anything when a call begins, and is all zero when one returns: what the call was
@@ -30,16 +36,16 @@ pub struct Work {
 /// The least lengths, in elements.
 #[allow(missing_docs)]
 impl Work {
-    pub const TUPLES: usize = 3072;
-    pub const CELLS: usize = 16384;
-    pub const DROPPED: usize = 256;
-    pub const GAINS: usize = 256;
-    pub const BONUSES: usize = 64;
-    pub const VALUES: usize = 256;
-    pub const NEXT: usize = 256;
-    pub const CHOICES: usize = 4096;
-    pub const ORDER: usize = 256;
-    pub const NUMBERS: usize = 256;
+    pub const TUPLES: usize = PLACES * STATES_MOST;
+    pub const CELLS: usize = LETTERS_MOST * STATES_MOST;
+    pub const DROPPED: usize = STATES_MOST;
+    pub const GAINS: usize = STATES_MOST;
+    pub const BONUSES: usize = LETTERS_MOST;
+    pub const VALUES: usize = STATES_MOST;
+    pub const NEXT: usize = STATES_MOST;
+    pub const CHOICES: usize = INPUTS_MOST * STATES_MOST;
+    pub const ORDER: usize = STATES_MOST;
+    pub const NUMBERS: usize = STATES_MOST;
 }
 
 impl Work {

@@ -12,7 +12,7 @@ use Rattle.product.specs.Meaning.Step.{inputsOf, advance, firstTuple}
 use Rattle.solve.specs.Meaning.Allowed.{Accepted}
 use Rattle.solve.specs.Meaning.Made.{madeNumber, madeLength, madeStates}
 use Rattle.solve.specs.Promises.Making.{Makes}
-use Rattle.solve.specs.Promises.Work.{openingWork, workMost}
+use Rattle.solve.specs.Promises.OpeningWork.{openingWork, workMost}
 use Rattle.solve.specs.declared.made.Made.{Made}
 use Rattle.guard.specs.Meaning.Faithful.{Move, GuardStates, Faithful}
 use Rattle.plan.specs.Model.GuardOfSheet.{guardTableBy, statesBy, ownHorizon}

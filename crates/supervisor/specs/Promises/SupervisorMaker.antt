@@ -17,7 +17,7 @@ use Rattle.solve.specs.Meaning.Allowed.{Kept, Lost, Allowed, Accepted, AllowedA
 use Rattle.supervisor.specs.Model.SupervisorOfSheet.{supervisorTable}
 use Rattle.solve.specs.Meaning.Made.{madeNumber, madeLength, madeStates}
 use Rattle.solve.specs.Promises.Making.{Makes}
-use Rattle.solve.specs.Promises.Work.{openingWork, workMost}
+use Rattle.solve.specs.Promises.OpeningWork.{openingWork, workMost}
 use Rattle.solve.specs.declared.made.Made.{Made}
 
 -- ---- work memory

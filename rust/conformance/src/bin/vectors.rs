@@ -18,7 +18,9 @@ fn main() -> ExitCode {
     let (mut subject, file): (Box<dyn Subject>, &str) = match arguments.as_slice() {
         ["reference", file] => (Box::new(Reference), file),
         ["library", ..] if !guard::LINKED => {
-            return stop("built without the library: run `rt staticlib hundlezoqa_c` and build again")
+            return stop(
+                "built without the library: run `rt staticlib hundlezoqa_c` and build again",
+            )
         }
         ["library", file] => (Box::new(Library::new(None)), file),
         ["library", file, "--listing", program] => {
