@@ -60,7 +60,11 @@ impl Guard {
         order: &mut [u16],
         numbers: &mut [u16],
     ) -> Made
-        ensures made { λ r. ⌜ MakesGuard (now (sheet .entry)) (now (result .entry)) (length (now (tuples .entry)) ∷ length (now (cells .entry)) ∷ length (now (dropped .entry)) ∷ length (now (gains .entry)) ∷ length (now (bonuses .entry)) ∷ length (now (values .entry)) ∷ length (now (next .entry)) ∷ length (now (choices .entry)) ∷ length (now (order .entry)) ∷ length (now (numbers .entry)) ∷ []) r (now (result .exit)) ⌝ }
+        ensures made { λ r. ⌜
+            MakesGuard (now (sheet .entry)) (now (result .entry))
+            (length (now (tuples .entry)) ∷ length (now (cells .entry)) ∷ length (now (dropped .entry)) ∷ length (now (gains .entry)) ∷
+            length (now (bonuses .entry)) ∷ length (now (values .entry)) ∷ length (now (next .entry)) ∷ length (now (choices .entry)) ∷
+            length (now (order .entry)) ∷ length (now (numbers .entry)) ∷ []) r (now (result .exit)) ⌝ }
         ensures tuples { λ _. ⌜ now (tuples .exit) ≡ zeros (length (now (tuples .entry))) ⌝ }
         ensures cells { λ _. ⌜ now (cells .exit) ≡ zeros (length (now (cells .entry))) ⌝ }
         ensures dropped { λ _. ⌜ now (dropped .exit) ≡ zeros (length (now (dropped .entry))) ⌝ }
@@ -126,7 +130,8 @@ fn work_ok(
     order: usize,
     numbers: usize,
 ) -> bool
-    ensures { λ r. ⌜ r ≡ longEnough guardWork (tuples ∷ cells ∷ dropped ∷ gains ∷ bonuses ∷ values ∷ next ∷ choices ∷ order ∷ numbers ∷ []) ⌝ }
+    ensures { λ r. ⌜
+        r ≡ longEnough guardWork (tuples ∷ cells ∷ dropped ∷ gains ∷ bonuses ∷ values ∷ next ∷ choices ∷ order ∷ numbers ∷ []) ⌝ }
 {
     if tuples < Guard::TUPLES {
         return false;

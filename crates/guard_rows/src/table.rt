@@ -35,7 +35,9 @@ pub fn put_entries(
 )
     requires { ⌜ Entered (stepsOf (now cells) ins outs) (now choices) (now numbers) n k ⌝ }
     requires { ⌜ (ins ≡ 2 ^ lines) × RowInside (now result) lines place ⌝ }
-    ensures { λ _. ⌜ now (result .exit) ≡ sets (now (result .entry)) (entryAt lines place 0) (cat ins (entryBy (stepsOf (now (cells .entry)) ins outs) (now (choices .entry)) (now (numbers .entry)) k)) ⌝ }
+    ensures { λ _. ⌜
+        now (result .exit) ≡ sets (now (result .entry)) (entryAt lines place 0)
+        (cat ins (entryBy (stepsOf (now (cells .entry)) ins outs) (now (choices .entry)) (now (numbers .entry)) k)) ⌝ }
 {
     let layout = Layout { inputs: lines };
     let mut i: usize = 0;
@@ -64,7 +66,9 @@ pub fn put_row(
 )
     requires { ⌜ Entered (stepsOf (now cells) ins outs) (now choices) (now numbers) n k ⌝ }
     requires { ⌜ (ins ≡ 2 ^ lines) × RowInside (now result) lines place ⌝ }
-    ensures { λ _. ⌜ now (result .exit) ≡ sets (now (result .entry)) (rowAt lines place) (guardRowBy lines (stepsOf (now (cells .entry)) ins outs) (now (choices .entry)) (now (numbers .entry)) k) ⌝ }
+    ensures { λ _. ⌜
+        now (result .exit) ≡ sets (now (result .entry)) (rowAt lines place)
+        (guardRowBy lines (stepsOf (now (cells .entry)) ins outs) (now (choices .entry)) (now (numbers .entry)) k) ⌝ }
 {
     put_row_header(result, lines, place);
     put_entries(
@@ -96,7 +100,10 @@ pub fn put_rows(
 )
     requires { ⌜ Tabled (stepsOf (now cells) ins outs) (now choices) (now order) (now numbers) n count ⌝ }
     requires { ⌜ (ins ≡ 2 ^ lines) × ((lines ≤ maxInputs) × (tableLength lines count ≤ length (now result))) ⌝ }
-    ensures { λ _. ⌜ now (result .exit) ≡ sets (now (result .entry)) headLength (cat count (λ j. guardRowBy lines (stepsOf (now (cells .entry)) ins outs) (now (choices .entry)) (now (numbers .entry)) (getD (now (order .entry)) j 0))) ⌝ }
+    ensures { λ _. ⌜
+        now (result .exit) ≡ sets (now (result .entry)) headLength
+        (cat count (λ j. guardRowBy lines (stepsOf (now (cells .entry)) ins outs) (now (choices .entry)) (now (numbers .entry))
+        (getD (now (order .entry)) j 0))) ⌝ }
 {
     let mut j: usize = 0;
     while j < count {
@@ -122,7 +129,10 @@ pub fn write(
 )
     requires { ⌜ Tabled (stepsOf (now cells) ins outs) (now choices) (now order) (now numbers) n count ⌝ }
     requires { ⌜ (ins ≡ 2 ^ sheet .inputs) × ((sheet .inputs ≤ maxInputs) × (tableLength (sheet .inputs) count ≤ length (now result))) ⌝ }
-    ensures { λ _. ⌜ now (result .exit) ≡ sets (now (result .entry)) 0 (tableBy (sheet .mode) (sheet .inputs) (sheet .outputs) horizon count (stepsOf (now (cells .entry)) ins outs) (now (choices .entry)) (now (order .entry)) (now (numbers .entry))) ⌝ }
+    ensures { λ _. ⌜
+        now (result .exit) ≡ sets (now (result .entry)) 0
+        (tableBy (sheet .mode) (sheet .inputs) (sheet .outputs) horizon count (stepsOf (now (cells .entry)) ins outs)
+        (now (choices .entry)) (now (order .entry)) (now (numbers .entry))) ⌝ }
 {
     put_head(
         result,

@@ -19,7 +19,9 @@ pub struct Entry {
 // The entry of a state and an input.
 pub fn entry_in(table: &[u8], lines: u8, place: usize, input: usize) -> Entry
     requires { ⌜ Inside (now table) lines place input ⌝ }
-    ensures { λ r. ⌜ (r .output ≡ outputIn (now (table .entry)) lines place input) × ((r .next ≡ nextIn (now (table .entry)) lines place input) × (r .next < nextEnd)) ⌝ }
+    ensures { λ r. ⌜
+        (r .output ≡ outputIn (now (table .entry)) lines place input) ×
+        ((r .next ≡ nextIn (now (table .entry)) lines place input) × (r .next < nextEnd)) ⌝ }
 {
     let layout = Layout { inputs: lines };
     let at = layout.entry_at(place, input);

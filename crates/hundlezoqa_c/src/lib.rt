@@ -23,7 +23,10 @@ pub extern "C" fn hz_make_supervisor(
     figures: &mut [u64],
 ) -> u32
     requires { ⌜ 2 ≤ length (now figures) ⌝ }
-    ensures made { λ r. ⌜ ReportsSupervisor (now (sheet .entry)) (now (result .entry)) (length (now (tuples .entry)) ∷ length (now (cells .entry)) ∷ length (now (dropped .entry)) ∷ []) (now (result .exit)) r (now (figures .entry)) (now (figures .exit)) ⌝ }
+    ensures made { λ r. ⌜
+        ReportsSupervisor (now (sheet .entry)) (now (result .entry))
+        (length (now (tuples .entry)) ∷ length (now (cells .entry)) ∷ length (now (dropped .entry)) ∷ []) (now (result .exit)) r
+        (now (figures .entry)) (now (figures .exit)) ⌝ }
     ensures tuples { λ _. ⌜ now (tuples .exit) ≡ zeros (length (now (tuples .entry))) ⌝ }
     ensures cells { λ _. ⌜ now (cells .exit) ≡ zeros (length (now (cells .entry))) ⌝ }
     ensures dropped { λ _. ⌜ now (dropped .exit) ≡ zeros (length (now (dropped .entry))) ⌝ }
@@ -50,7 +53,12 @@ pub extern "C" fn hz_make_guard(
     figures: &mut [u64],
 ) -> u32
     requires { ⌜ 2 ≤ length (now figures) ⌝ }
-    ensures made { λ r. ⌜ ReportsGuard (now (sheet .entry)) (now (result .entry)) (length (now (tuples .entry)) ∷ length (now (cells .entry)) ∷ length (now (dropped .entry)) ∷ length (now (gains .entry)) ∷ length (now (bonuses .entry)) ∷ length (now (values .entry)) ∷ length (now (next .entry)) ∷ length (now (choices .entry)) ∷ length (now (order .entry)) ∷ length (now (numbers .entry)) ∷ []) (now (result .exit)) r (now (figures .entry)) (now (figures .exit)) ⌝ }
+    ensures made { λ r. ⌜
+        ReportsGuard (now (sheet .entry)) (now (result .entry))
+        (length (now (tuples .entry)) ∷ length (now (cells .entry)) ∷ length (now (dropped .entry)) ∷ length (now (gains .entry)) ∷
+        length (now (bonuses .entry)) ∷ length (now (values .entry)) ∷ length (now (next .entry)) ∷ length (now (choices .entry)) ∷
+        length (now (order .entry)) ∷ length (now (numbers .entry)) ∷ []) (now (result .exit)) r (now (figures .entry))
+        (now (figures .exit)) ⌝ }
     ensures tuples { λ _. ⌜ now (tuples .exit) ≡ zeros (length (now (tuples .entry))) ⌝ }
     ensures cells { λ _. ⌜ now (cells .exit) ≡ zeros (length (now (cells .entry))) ⌝ }
     ensures dropped { λ _. ⌜ now (dropped .exit) ≡ zeros (length (now (dropped .entry))) ⌝ }

@@ -21,7 +21,9 @@ pub fn fill_gains(s: &[u8], sheet: Sheet, tuples: &[u8], gains: &mut [u16], n: u
     requires { ⌜ Fits (now s) sheet ⌝ }
     requires { ⌜ ((k : ℕ) → k < n → InRange (decoded (now s) sheet) (tupleAt (now tuples) k)) ⌝ }
     requires { ⌜ (n ≤ maxStates) × ((tuplesLength ≤ length (now tuples)) × (n ≤ length (now gains))) ⌝ }
-    ensures { λ _. ⌜ now (gains .exit) ≡ put (now (gains .entry)) n (λ k. softReward (weightOf (decoded (now (s .entry)) sheet)) (decoded (now (s .entry)) sheet) (tupleAt (now (tuples .entry)) k)) ⌝ }
+    ensures { λ _. ⌜
+        now (gains .exit) ≡ put (now (gains .entry)) n
+        (λ k. softReward (weightOf (decoded (now (s .entry)) sheet)) (decoded (now (s .entry)) sheet) (tupleAt (now (tuples .entry)) k)) ⌝ }
 {
     let mut k: usize = 0;
     while k < n {
@@ -35,7 +37,9 @@ pub fn fill_gains(s: &[u8], sheet: Sheet, tuples: &[u8], gains: &mut [u16], n: u
 pub fn fill_bonuses(sheet: Sheet, bonuses: &mut [u16], ins: usize, outs: usize)
     requires { ⌜ ((s : List ℕ) × Fits s sheet) ⌝ }
     requires { ⌜ (1 ≤ ins) × (ins * outs ≤ length (now bonuses)) ⌝ }
-    ensures { λ _. ⌜ ((s : List ℕ) → now (bonuses .exit) ≡ put (now (bonuses .entry)) (ins * outs) (λ l. matchReward (decoded s sheet) (l % ins) (l / ins))) ⌝ }
+    ensures { λ _. ⌜
+        ((s : List ℕ) → now (bonuses .exit) ≡ put (now (bonuses .entry)) (ins * outs)
+        (λ l. matchReward (decoded s sheet) (l % ins) (l / ins))) ⌝ }
 {
     let mut l: usize = 0;
     while l < ins * outs {

@@ -36,9 +36,14 @@ pub fn plan(
 ) -> usize
     requires { ⌜ Fits (now s) sheet ⌝ }
     requires { ⌜ Playable (decoded (now s) sheet) n (now tuples) (now cells) (now dropped) ⌝ }
-    requires { ⌜ (ins ≡ 2 ^ sheet .inputs) × ((outs ≡ 2 ^ sheet .outputs) × (horizonOk (inputLines (decoded (now s) sheet)) horizon ≡ true)) ⌝ }
-    requires { ⌜ Room (now tuples) (now cells) (now dropped) (now gains) (now bonuses) (now values) (now next) (now choices) (now order) (now numbers) ⌝ }
-    ensures { λ r. ⌜ Planned (decoded (now (s .entry)) sheet) horizon (stepsOf (now (cells .entry)) ins outs) (now (choices .exit)) (now (order .exit)) (now (numbers .exit)) n r ⌝ }
+    requires { ⌜
+        (ins ≡ 2 ^ sheet .inputs) × ((outs ≡ 2 ^ sheet .outputs) × (horizonOk (inputLines (decoded (now s) sheet)) horizon ≡ true)) ⌝ }
+    requires { ⌜
+        Room (now tuples) (now cells) (now dropped) (now gains) (now bonuses) (now values) (now next) (now choices) (now order)
+        (now numbers) ⌝ }
+    ensures { λ r. ⌜
+        Planned (decoded (now (s .entry)) sheet) horizon (stepsOf (now (cells .entry)) ins outs) (now (choices .exit))
+        (now (order .exit)) (now (numbers .exit)) n r ⌝ }
 {
     fill_gains(s, sheet, tuples, gains, n);
     fill_bonuses(sheet, bonuses, ins, outs);

@@ -30,7 +30,9 @@ pub fn make_with(
     order: &mut [u16],
     numbers: &mut [u16],
 ) -> Made
-    requires { ⌜ (ok ≡ true → Room (now tuples) (now cells) (now dropped) (now gains) (now bonuses) (now values) (now next) (now choices) (now order) (now numbers)) ⌝ }
+    requires { ⌜
+        (ok ≡ true → Room (now tuples) (now cells) (now dropped) (now gains) (now bonuses) (now values) (now next) (now choices)
+        (now order) (now numbers)) ⌝ }
     ensures { λ r. ⌜ Answers guardTableOf statesOf ok (now (s .entry)) (now (result .entry)) r (now (result .exit)) ⌝ }
 {
     let opening = open_sheet(ok, s, tuples, cells, dropped);

@@ -28,7 +28,8 @@ impl Report {
 
     // The listing of a table, at the start of the text memory.
     pub fn list(table: &[u8], text: &mut [u8]) -> Listed
-        ensures { λ r. ⌜ Writes (loadable (now (table .entry))) (listingOf (now (table .entry))) (now (text .entry)) r (now (text .exit)) ⌝ }
+        ensures { λ r. ⌜
+            Writes (loadable (now (table .entry))) (listingOf (now (table .entry))) (now (text .entry)) r (now (text .exit)) ⌝ }
     {
         if !is_loadable(table) {
             return Listed::NoTable;
@@ -66,7 +67,9 @@ impl Report {
 
     // What a maker answered, whose table, if it made one, is at the start of `result`.
     pub fn outcome(made: Made, result: &[u8], text: &mut [u8]) -> Listed
-        ensures { λ r. ⌜ Writes (outcomeDue made (now (result .entry))) (outcomeText made (now (result .entry))) (now (text .entry)) r (now (text .exit)) ⌝ }
+        ensures { λ r. ⌜
+            Writes (outcomeDue made (now (result .entry))) (outcomeText made (now (result .entry))) (now (text .entry)) r
+            (now (text .exit)) ⌝ }
     {
         match made {
             Made::Table { length, states: _ } => {

@@ -17,7 +17,9 @@ ghost use Rattle.sheet.specs.Model.HeadRecord.{headSheet, readHead};
 
 // The sheet of a head that is in order, with no monitors yet.
 pub fn head_sheet(s: &[u8], start: usize) -> Sheet
-    requires { ⌜ (siteAt (now s) start ≤ maxInputs) × ((outputsAt (now s) start ≤ maxOutputs) × (literalsFrom start + outputsAt (now s) start ≤ length (now s))) ⌝ }
+    requires { ⌜
+        (siteAt (now s) start ≤ maxInputs) × ((outputsAt (now s) start ≤ maxOutputs) ×
+        (literalsFrom start + outputsAt (now s) start ≤ length (now s))) ⌝ }
     ensures { λ r. ⌜ r ≡ headSheet (now (s .entry)) start ⌝ }
 {
     let outputs = s[start + 2];

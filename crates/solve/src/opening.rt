@@ -42,8 +42,11 @@ pub fn open_sheet(
     cells: &mut [u16],
     dropped: &mut [u16],
 ) -> Opening
-    requires { ⌜ (ok ≡ true → (tuplesLength ≤ length (now tuples)) × ((cellsLength ≤ length (now cells)) × (maxStates ≤ length (now dropped)))) ⌝ }
-    ensures memory { λ r. ⌜ Opens ok (now (s .entry)) (r .verdict) (r .sheet) (r .states) (r .kept) (now (tuples .exit)) (now (cells .exit)) (now (dropped .exit)) ⌝ }
+    requires { ⌜
+        (ok ≡ true → (tuplesLength ≤ length (now tuples)) × ((cellsLength ≤ length (now cells)) × (maxStates ≤ length (now dropped)))) ⌝ }
+    ensures memory { λ r. ⌜
+        Opens ok (now (s .entry)) (r .verdict) (r .sheet) (r .states) (r .kept) (now (tuples .exit)) (now (cells .exit))
+        (now (dropped .exit)) ⌝ }
     ensures answer { λ r. ⌜ OpenAnswer ok (now (s .entry)) (r .verdict) (r .states) (r .kept) ⌝ }
 {
     let reading = read(s);

@@ -45,7 +45,9 @@ impl Supervisor {
         cells: &mut [u16],
         dropped: &mut [u16],
     ) -> Made
-        ensures made { λ r. ⌜ MakesSupervisor (now (sheet .entry)) (now (result .entry)) (length (now (tuples .entry)) ∷ length (now (cells .entry)) ∷ length (now (dropped .entry)) ∷ []) r (now (result .exit)) ⌝ }
+        ensures made { λ r. ⌜
+            MakesSupervisor (now (sheet .entry)) (now (result .entry))
+            (length (now (tuples .entry)) ∷ length (now (cells .entry)) ∷ length (now (dropped .entry)) ∷ []) r (now (result .exit)) ⌝ }
         ensures tuples { λ _. ⌜ now (tuples .exit) ≡ zeros (length (now (tuples .entry))) ⌝ }
         ensures cells { λ _. ⌜ now (cells .exit) ≡ zeros (length (now (cells .entry))) ⌝ }
         ensures dropped { λ _. ⌜ now (dropped .exit) ≡ zeros (length (now (dropped .entry))) ⌝ }
@@ -85,7 +87,8 @@ fn make_with(
     cells: &mut [u16],
     dropped: &mut [u16],
 ) -> Made
-    requires { ⌜ (ok ≡ true → (tuplesLength ≤ length (now tuples)) × ((cellsLength ≤ length (now cells)) × (maxStates ≤ length (now dropped)))) ⌝ }
+    requires { ⌜
+        (ok ≡ true → (tuplesLength ≤ length (now tuples)) × ((cellsLength ≤ length (now cells)) × (maxStates ≤ length (now dropped)))) ⌝ }
     ensures { λ r. ⌜ Answers supervisorTable stateCount ok (now (s .entry)) (now (result .entry)) r (now (result .exit)) ⌝ }
 {
     let opening = open_sheet(ok, s, tuples, cells, dropped);

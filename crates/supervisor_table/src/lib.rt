@@ -55,8 +55,11 @@ pub fn put_masks(
     k: usize,
 )
     requires { ⌜ Steps (now cells) n ins outs ⌝ }
-    requires { ⌜ (n ≤ length (now dropped)) × ((n ≤ maxStates) × ((ins ≤ maxIns) × ((outs ≤ maxOuts) × ((k < n) × (at + ins ≤ length (now result)))))) ⌝ }
-    ensures { λ _. ⌜ now (result .exit) ≡ sets (now (result .entry)) at (tab ins (maskOf (now (cells .entry)) (now (dropped .entry)) ins outs k)) ⌝ }
+    requires { ⌜
+        (n ≤ length (now dropped)) × ((n ≤ maxStates) ×
+        ((ins ≤ maxIns) × ((outs ≤ maxOuts) × ((k < n) × (at + ins ≤ length (now result)))))) ⌝ }
+    ensures { λ _. ⌜
+        now (result .exit) ≡ sets (now (result .entry)) at (tab ins (maskOf (now (cells .entry)) (now (dropped .entry)) ins outs k)) ⌝ }
 {
     let mut i: usize = 0;
     while i < ins {
@@ -88,8 +91,11 @@ pub fn put_row(
     k: usize,
 )
     requires { ⌜ Steps (now cells) n ins outs ⌝ }
-    requires { ⌜ (n ≤ length (now dropped)) × ((n ≤ maxStates) × ((ins ≤ maxIns) × ((outs ≤ maxOuts) × ((k < n) × (at + (5 + ins) ≤ length (now result)))))) ⌝ }
-    ensures { λ _. ⌜ now (result .exit) ≡ sets (now (result .entry)) at (tableRow (now (cells .entry)) (now (dropped .entry)) ins outs k) ⌝ }
+    requires { ⌜
+        (n ≤ length (now dropped)) × ((n ≤ maxStates) ×
+        ((ins ≤ maxIns) × ((outs ≤ maxOuts) × ((k < n) × (at + (5 + ins) ≤ length (now result)))))) ⌝ }
+    ensures { λ _. ⌜
+        now (result .exit) ≡ sets (now (result .entry)) at (tableRow (now (cells .entry)) (now (dropped .entry)) ins outs k) ⌝ }
 {
     put_header(result, at, (1 + ins) as u16, 18);
     result[at + 4] = kept_flag(dropped, k);
@@ -106,8 +112,11 @@ pub fn put_rows(
     outs: usize,
 )
     requires { ⌜ Steps (now cells) n ins outs ⌝ }
-    requires { ⌜ (n ≤ length (now dropped)) × ((n ≤ maxStates) × ((ins ≤ maxIns) × ((outs ≤ maxOuts) × (maskTableLength ins n ≤ length (now result))))) ⌝ }
-    ensures { λ _. ⌜ now (result .exit) ≡ sets (now (result .entry)) 9 (cat n (tableRow (now (cells .entry)) (now (dropped .entry)) ins outs)) ⌝ }
+    requires { ⌜
+        (n ≤ length (now dropped)) × ((n ≤ maxStates) ×
+        ((ins ≤ maxIns) × ((outs ≤ maxOuts) × (maskTableLength ins n ≤ length (now result))))) ⌝ }
+    ensures { λ _. ⌜
+        now (result .exit) ≡ sets (now (result .entry)) 9 (cat n (tableRow (now (cells .entry)) (now (dropped .entry)) ins outs)) ⌝ }
 {
     let size = row_length(ins);
     let mut k: usize = 0;

@@ -81,7 +81,9 @@ pub fn choose_output(
 ) -> u8
     requires { ⌜ Ready (gameOf (now cells) (now dropped) (now gains) (now bonuses) ins outs) (now values) factor k ⌝ }
     requires { ⌜ (i < ins) × (count ≤ maxOutputs) ⌝ }
-    ensures { λ r. ⌜ r ≡ choiceOf (gameOf (now (cells .entry)) (now (dropped .entry)) (now (gains .entry)) (now (bonuses .entry)) ins outs) (literalsOf literals count) (now (values .entry)) factor k i ⌝ }
+    ensures { λ r. ⌜
+        r ≡ choiceOf (gameOf (now (cells .entry)) (now (dropped .entry)) (now (gains .entry)) (now (bonuses .entry)) ins outs)
+        (literalsOf literals count) (now (values .entry)) factor k i ⌝ }
 {
     let mut leader = Leader::none();
     let mut o: usize = 0;
@@ -116,7 +118,9 @@ pub fn fill_choices(
     requires { ⌜ SizedGame (gameOf (now cells) (now dropped) (now gains) (now bonuses) ins outs) n ⌝ }
     requires { ⌜ Valued n (now values) factor ⌝ }
     requires { ⌜ (count ≤ maxOutputs) × (n * ins ≤ length (now chosen)) ⌝ }
-    ensures { λ _. ⌜ now (chosen .exit) ≡ choices (gameOf (now (cells .entry)) (now (dropped .entry)) (now (gains .entry)) (now (bonuses .entry)) ins outs) n (literalsOf literals count) (now (values .entry)) factor (now (chosen .entry)) ⌝ }
+    ensures { λ _. ⌜
+        now (chosen .exit) ≡ choices (gameOf (now (cells .entry)) (now (dropped .entry)) (now (gains .entry)) (now (bonuses .entry)) ins
+        outs) n (literalsOf literals count) (now (values .entry)) factor (now (chosen .entry)) ⌝ }
 {
     let mut at: usize = 0;
     while at < n * ins {

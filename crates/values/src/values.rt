@@ -82,7 +82,9 @@ pub fn best_score(
 ) -> u64
     requires { ⌜ Ready (gameOf (now cells) (now dropped) (now gains) (now bonuses) ins outs) (now values) factor k ⌝ }
     requires { ⌜ i < ins ⌝ }
-    ensures { λ r. ⌜ r ≡ bestOf (gameOf (now (cells .entry)) (now (dropped .entry)) (now (gains .entry)) (now (bonuses .entry)) ins outs) (now (values .entry)) factor k i ⌝ }
+    ensures { λ r. ⌜
+        r ≡ bestOf (gameOf (now (cells .entry)) (now (dropped .entry)) (now (gains .entry)) (now (bonuses .entry)) ins outs)
+        (now (values .entry)) factor k i ⌝ }
 {
     let mut best: u64 = 0;
     let mut o: usize = 0;
@@ -112,7 +114,9 @@ pub fn worth_of(
     k: usize,
 ) -> u64
     requires { ⌜ Ready (gameOf (now cells) (now dropped) (now gains) (now bonuses) ins outs) (now values) factor k ⌝ }
-    ensures { λ r. ⌜ r ≡ worth (gameOf (now (cells .entry)) (now (dropped .entry)) (now (gains .entry)) (now (bonuses .entry)) ins outs) (now (values .entry)) factor k ⌝ }
+    ensures { λ r. ⌜
+        r ≡ worth (gameOf (now (cells .entry)) (now (dropped .entry)) (now (gains .entry)) (now (bonuses .entry)) ins outs)
+        (now (values .entry)) factor k ⌝ }
 {
     if !is_kept(dropped, k) {
         return 0;
@@ -153,7 +157,10 @@ pub fn value_round(
     requires { ⌜ SizedGame (gameOf (now cells) (now dropped) (now gains) (now bonuses) ins outs) n ⌝ }
     requires { ⌜ Valued n (now values) factor ⌝ }
     requires { ⌜ n ≤ length (now next) ⌝ }
-    ensures { λ _. ⌜ now (next .exit) ≡ put (now (next .entry)) n (worth (gameOf (now (cells .entry)) (now (dropped .entry)) (now (gains .entry)) (now (bonuses .entry)) ins outs) (now (values .entry)) factor) ⌝ }
+    ensures { λ _. ⌜
+        now (next .exit) ≡ put (now (next .entry)) n
+        (worth (gameOf (now (cells .entry)) (now (dropped .entry)) (now (gains .entry)) (now (bonuses .entry)) ins outs)
+        (now (values .entry)) factor) ⌝ }
 {
     let mut k: usize = 0;
     while k < n {
@@ -190,7 +197,9 @@ pub fn value_rows(
     requires { ⌜ SizedGame (gameOf (now cells) (now dropped) (now gains) (now bonuses) ins outs) n ⌝ }
     requires { ⌜ (n ≤ length (now values)) × (n ≤ length (now next)) ⌝ }
     requires { ⌜ (horizon ≤ maxHorizon) × (ins ^ horizon ≤ 2 ^ maxHorizon) ⌝ }
-    ensures row { λ _. ⌜ now (values .exit) ≡ valueRow (gameOf (now (cells .entry)) (now (dropped .entry)) (now (gains .entry)) (now (bonuses .entry)) ins outs) n (now (values .entry)) horizon ⌝ }
+    ensures row { λ _. ⌜
+        now (values .exit) ≡ valueRow (gameOf (now (cells .entry)) (now (dropped .entry)) (now (gains .entry)) (now (bonuses .entry))
+        ins outs) n (now (values .entry)) horizon ⌝ }
     ensures words { λ r. ⌜ r ≡ ins ^ horizon ⌝ }
 {
     clear_front64(values, n);
