@@ -1,5 +1,5 @@
 // The bytes of a guard table: its head, and a row for each of the guard's states.
-// `inputs` is the number of inputs that `lines` lines make; `cells`, `choices`, `order` and `numbers` are as planning
+// `ins` is the number of inputs that `lines` lines make; `cells`, `choices`, `order` and `numbers` are as planning
 // leaves them.
 use crate::states::follow;
 use guard_table::entry::Entry;

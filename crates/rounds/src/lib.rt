@@ -1,5 +1,5 @@
 // The rounds that drop lost states, over a table of steps, and the masks of allowed outputs.
-// `inputs` and `outputs` are the numbers of inputs and of outputs; `dropped` holds for each state the round, counted
+// `ins` and `outs` are the numbers of inputs and of outputs; `dropped` holds for each state the round, counted
 // from 1, that dropped it, and 0 while it is in.
 use records::cells::is_broken;
 use records::clear::clear_front16;

@@ -1,5 +1,5 @@
 // Value iteration over a table of steps: what each kept state is worth over a horizon.
-// `inputs` and `outputs` are the numbers of inputs and of outputs; `gains` holds for each state what a step to it earns,
+// `ins` and `outs` are the numbers of inputs and of outputs; `gains` holds for each state what a step to it earns,
 // `bonuses` for each letter what it adds; `factor` is the number of words of inputs that are still to come.
 use records::clear::clear_front64;
 use rounds::cell_at;
