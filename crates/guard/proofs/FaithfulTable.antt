@@ -25,7 +25,8 @@ pub faithful : (d : Decoded) → SheetOk d → stateCount d ≤ maxStates → Ke
     → (h : ℕ) → horizonOk (inputLines d) h ≡ true → Faithful d h (guardOver d h)
 faithful d ok fits realizable h far b e cs lent =
     let start = start-in d fits .1 realizable in
-    agrees (List ℕ) Board boardAfter says (guardOver d h) (guardCount d h) (inputsOf d) maxSteps (d .mode) (d .site) (outputOf d h) (nextOf d h)
+    agrees (List ℕ) Board boardAfter says (guardOver d h) (guardCount d h) (inputsOf d) maxSteps (d .mode) (d .site) (outputOf d h)
+    (nextOf d h)
     (λ x. live x ≡ false) (Stands (guardOver d h)) (runs d fits start (ok .head) h far)
     (List ℕ) (advance d) (firstTuple d) (Move d h) (Winning d) (start-winning d fits realizable h)
     (move-winning d fits realizable h (ok .head))

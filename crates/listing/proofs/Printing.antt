@@ -60,7 +60,8 @@ both : (m n : ℕ) → firstNumber m n ≡ 0 → (m ≡ 0) × (n ≡ 0)
 both zero n e = (refl, e)
 both (suc m) n e = absurd (omega arith)
 
-accepted : (s : List ℕ) → sheetGround s ≡ 0 → (sheetNumber s ≡ 0) × (stateCount (sheetOf s) ≤ maxStates) × (isIn (droppedOf (sheetOf s)) 0 ≡ true)
+accepted : (s : List ℕ) → sheetGround s ≡ 0 → (sheetNumber s ≡ 0) × (stateCount (sheetOf s) ≤ maxStates)
+    × (isIn (droppedOf (sheetOf s)) 0 ≡ true)
 unfolding sheetGround
 accepted s e = let r = both (sheetNumber s) (firstNumber (manyNumber (sheetOf s)) (lostNumber (sheetOf s))) e in
     let g = solved (sheetOf s) (r .1) in (r .0, g .0, g .1)

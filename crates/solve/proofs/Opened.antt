@@ -68,11 +68,13 @@ module _ {ok : Bool} {s : List ℕ} where
       opens-many h =
           let many : maxStates < stateCount (sheetOf s) = subst (λ (d : Decoded). maxStates < stateCount d) same h in (
             λ table counts before.
-                answers-judged table counts ok s before long x reads accepted _ before (judges-many table counts (decoded s (x .sheet)) before h),
+                answers-judged table counts ok s before long x reads accepted _ before
+                (judges-many table counts (decoded s (x .sheet)) before h),
             record { number = rw (long, none, lt-ltb maxStates (stateCount (sheetOf s)) many); states-are = refl; kept-are = refl },
           )
 
-      module _ {n kept : ℕ} {start : Bool} {tuples cells dropped : List ℕ} (solution : Solution (decoded s (x .sheet)) n kept start tuples cells dropped) where
+      module _ {n kept : ℕ} {start : Bool} {tuples cells dropped : List ℕ}
+          (solution : Solution (decoded s (x .sheet)) n kept start tuples cells dropped) where
         few : stateCount (decoded s (x .sheet)) ≤ maxStates
         few = numbering-fits (solution .numbering)
 

@@ -85,5 +85,6 @@ module _ (d : Decoded) {n m : ℕ} {t u : List ℕ} (x : Means d n t) (y : Means
   pub only-table : (n ≡ m) × (t ≡ u)
   unfolding maskTable
   only-table =
-      let rows = cat-ext n (λ k. maskRow (inputsOf d) (x .kept k) (x .mask k)) (λ k. maskRow (inputsOf d) (y .kept k) (y .mask k)) same-row in
+      let rows = cat-ext n (λ k. maskRow (inputsOf d) (x .kept k) (x .mask k)) (λ k. maskRow (inputsOf d) (y .kept k) (y .mask k))
+      same-row in
       (same-count, x .bytes ∙ rw (rows, same-count) (sym (y .bytes)))

@@ -33,7 +33,8 @@ module _
     guard-step b e s h i l =
         let same : b .inputs ≡ inputs = s .inputs ∙ reads .inputs-is in
         let k : b .place < count = subst (λ (n : ℕ). b .place < n) (s .count ∙ reads .count-is) (live-facts b e .place) in
-        step-taken b e table (guard-loadable mode inputs outputs horizon count out next lines far some most outs nexts) s i h (subst (λ (n : ℕ). i < 2 ^ n) (sym same) l)
+        step-taken b e table (guard-loadable mode inputs outputs horizon count out next lines far some most outs nexts) s i h
+        (subst (λ (n : ℕ). i < 2 ^ n) (sym same) l)
         ∙ ap₂ (boardMoved b i)
         (ap (λ (n : ℕ). outputIn table n (b .place) i) same ∙ entry-output mode inputs outputs horizon count out next (b .place) k i l)
         (ap (λ (n : ℕ). nextIn table n (b .place) i) same ∙ entry-next mode inputs outputs horizon count out next (b .place) k i l)

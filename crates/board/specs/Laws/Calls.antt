@@ -114,7 +114,8 @@ proposal-of s l p h = rw (add-comm l (2 ^ s * p), mul-comm (2 ^ s) p) (high p s 
 
 -- a step looks at the slice's length and at the entry's two bytes, and at nothing else of the slice
 pub step-reads : (b : Board) (t u : List ℕ) (i : ℕ) → length t ≡ length u
-    → outputIn t (b .inputs) (b .place) i ≡ outputIn u (b .inputs) (b .place) i → nextIn t (b .inputs) (b .place) i ≡ nextIn u (b .inputs) (b .place) i → stepOn b t i ≡ stepOn b u i
+    → outputIn t (b .inputs) (b .place) i ≡ outputIn u (b .inputs) (b .place) i
+    → nextIn t (b .inputs) (b .place) i ≡ nextIn u (b .inputs) (b .place) i → stepOn b t i ≡ stepOn b u i
 unfolding stepOn lookedUp entryFits entryOk
 step-reads b t u i l o n = rw (l, o, n)
 
@@ -141,7 +142,8 @@ run-live b p s d e h k l m =
 -- what a step of a live board does: it is refused, with the same board, or it moves by the entry
 pub data StepCase (b : Board) (t : List ℕ) (i : ℕ) : Type 0 where
   refused : (a : Step) → eqb (stepNumber a) 0 ≡ false → stepOn b t i ≡ record { board = b; answer = a } → StepCase b t i
-  taken : b .steps < maxSteps → entryFits b t i ≡ true → stepOn b t i ≡ boardMoved b i (outputIn t (b .inputs) (b .place) i) (nextIn t (b .inputs) (b .place) i) → StepCase b t i
+  taken : b .steps < maxSteps → entryFits b t i ≡ true → stepOn b t i ≡ boardMoved b i (outputIn t (b .inputs) (b .place) i)
+      (nextIn t (b .inputs) (b .place) i) → StepCase b t i
 
 -- outside mode 1 nothing deviates
 never-deviates : (mode site input output : ℕ) → mode ≡ 0 → deviates mode site input output ≡ false
@@ -207,7 +209,8 @@ module _ (b : Board) (e : live b ≡ true) where
   step-live t i =
       elim (step-case t i) [
         | refused a n q ↦ rw q e
-        | taken s f q ↦ rw q (moved-live i (outputIn t (b .inputs) (b .place) i) (nextIn t (b .inputs) (b .place) i) s (next-inside b t i f))
+        | taken s f q ↦ rw q (moved-live i (outputIn t (b .inputs) (b .place) i) (nextIn t (b .inputs) (b .place) i) s
+            (next-inside b t i f))
       ]
 
   -- only unload empties it
@@ -234,7 +237,8 @@ module _ (b : Board) (e : live b ≡ true) where
     entry-fits h = fits (b .inputs) (b .outputs) (b .count) (s .inputs) (s .outputs) (s .count) (live-facts b e .place) h
       where
         fits : (inputs outputs count : ℕ) → inputs ≡ headInputs t → outputs ≡ headOutputs t → count ≡ headCount t → b .place < count
-            → i < 2 ^ inputs → (eqb (length t) (tableLength inputs count) && entryOk (outputIn t inputs (b .place) i) (nextIn t inputs (b .place) i) outputs count) ≡ true
+            → i < 2 ^ inputs → (eqb (length t) (tableLength inputs count)
+            && entryOk (outputIn t inputs (b .place) i) (nextIn t inputs (b .place) i) outputs count) ≡ true
         fits n o k p q r h m =
             rw (p, q, r)
             (and-both _ _ (eq-eqb _ _ (loadable-head t l .fills)) (loadable-entry t l (b .place) i (rw r at h) (rw p at m)))
@@ -246,6 +250,7 @@ module _ (b : Board) (e : live b ≡ true) where
         by-test (ltb i (2 ^ b .inputs)) (λ q. simp (e, q, entry-fits (ltb-true _ _ q))) (λ q. simp (e, q))
 
     -- else it gives the entry's output and moves to its next state, one step on, with one deviation more iff it deviates
-    pub step-taken : b .steps < maxSteps → i < 2 ^ b .inputs → stepOn b t i ≡ boardMoved b i (outputIn t (b .inputs) (b .place) i) (nextIn t (b .inputs) (b .place) i)
+    pub step-taken : b .steps < maxSteps → i < 2 ^ b .inputs
+        → stepOn b t i ≡ boardMoved b i (outputIn t (b .inputs) (b .place) i) (nextIn t (b .inputs) (b .place) i)
     unfolding stepOn lookedUp
     step-taken h k = simp (e, lt-leb _ _ h, lt-ltb _ _ k, entry-fits k)

@@ -43,7 +43,8 @@ facts-live b h =
     let l = lines-facts (b .mode) (b .inputs) (b .outputs) (h .lines) in
     let m : (eqb (b .mode) 1 || eqb (b .deviations) 0) ≡ true =
     by-test (eqb (b .mode) 1) (λ q. or-left (eqb (b .mode) 1) (eqb (b .deviations) 0) q)
-    (λ q. or-right (eqb (b .mode) 1) (eqb (b .deviations) 0) (eq-eqb (b .deviations) 0 (h .controller (no-shield (b .mode) (l .mode-is) q)))) in
+    (λ q. or-right (eqb (b .mode) 1) (eqb (b .deviations) 0)
+    (eq-eqb (b .deviations) 0 (h .controller (no-shield (b .mode) (l .mode-is) q)))) in
     simp (
       h .loaded,
       h .lines,

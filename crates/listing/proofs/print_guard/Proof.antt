@@ -71,7 +71,8 @@ unfolding exactly
 returns c =
     let told = reported c in
     let done = made told in
-    outcome-prints {lent = exactly guardWork} (done .make .ensures .0) (λ k. omega (arith, entered done .shared-slice-known .given k)) refl (refl {a = exactly guardWork})
+    outcome-prints {lent = exactly guardWork} (done .make .ensures .0) (λ k. omega (arith, entered done .shared-slice-known .given k))
+    refl (refl {a = exactly guardWork})
     (omega (arith, entered done .before .pre)) (told .outcome .ensures) (c .written .ensures)
 
 pub print-guard-spec : {M : Type 1} → statement M

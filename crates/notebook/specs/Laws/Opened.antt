@@ -54,14 +54,16 @@ lists = tt
 
 -- a sheet's bytes, and how they are read
 unfoldable pub sheets : Unit {0}
-unfolding lists encode encodeHead encodeMonitor readAt guardLines lettersRead siteOk freshLine literalOk literalsOk numbersOk headOk literalAt headSheet readHead
+unfolding lists encode encodeHead encodeMonitor readAt guardLines lettersRead siteOk freshLine literalOk literalsOk numbersOk headOk
+    literalAt headSheet readHead
     withMonitor roleOk statesOk bytesMost monitorOk monitorAt takeMonitor takeRecord onFound readRecords firstFound reading
     headNumber monitorNumber recordsNumber sheetNumber automaton decoded sheetOf
 sheets = tt
 
 -- steps, product states, rounds and the supervisor table
 unfoldable pub supervisors : Unit {0}
-unfolding lists proposal differs siteLetter nextState accepts shadowed shadowMoved sound limitLetter letterOf monitorMoved moved advance broken firstTuple
+unfolding lists proposal differs siteLetter nextState accepts shadowed shadowMoved sound limitLetter letterOf monitorMoved moved advance
+    broken firstTuple
     explore visit met meet add find statesAfter productStates stateCount stateOf numberOf cellOf
     cellAt isBroken isIn leadsIn answered stays entryAfter round rounds settled maskOf
     cellsOf droppedOf keptFlag tableHead tableRow tableOf supervisorTable manyNumber lostNumber roomNumber tableNumber makingNumber
@@ -69,13 +71,16 @@ supervisors = tt
 
 -- rewards, values, choices and the guard table
 unfoldable pub guards : Unit {0}
-unfolding supervisors scoresOf line equalLines softReward gainsOf matchReward bonusesOf sheetGame before against leader choose literalHolds rankBy rank
+unfolding supervisors scoresOf line equalLines softReward gainsOf matchReward bonusesOf sheetGame before against leader choose
+    literalHolds rankBy rank
     mayGive values.cellNext earns scoreOf worth valueRow valuesOf choiceOf choices choicesOf chosen follows guardStates guardNumber
     guardOf guardCount outputOf guard.nextOf guardRow guardTable guardOver guardTableBy
 guards = tt
 
 -- load and step
 unfoldable pub boards : Unit {0}
-unfolding lists rowLength tableLength rowAt entryAt headerIs outputIn nextIn countsOk live emptyBoard runAt sizeOk fieldsOk table.tableHeadOk entryOk entriesOk rowOk rowsOk
-    loadable boardOf loadOn proposal differs deviates entryFits board.boardMoved lookedUp stepOn outputsFrom boardFrom outputs deviationsShown
+unfolding lists rowLength tableLength rowAt entryAt headerIs outputIn nextIn countsOk live emptyBoard runAt sizeOk fieldsOk
+    table.tableHeadOk entryOk entriesOk rowOk rowsOk
+    loadable boardOf loadOn proposal differs deviates entryFits board.boardMoved lookedUp stepOn outputsFrom boardFrom outputs
+    deviationsShown
 boards = tt

@@ -59,7 +59,8 @@ module _
 
 module _ (d : Decoded) (fits : stateCount d ≤ maxStates) where
   row-is : (h k : ℕ) → KeptNumber d k
-      → getD (valuesOf d h) k 0 ≡ value ℕ (inputsOf d) (outputsOf d) (cellNext (sheetGame d)) (mayGive (sheetGame d)) (earns (sheetGame d)) h k
+      → getD (valuesOf d h) k 0 ≡ value ℕ (inputsOf d) (outputsOf d) (cellNext (sheetGame d)) (mayGive (sheetGame d))
+      (earns (sheetGame d)) h k
   unfolding valuesOf sheetGame
   row-is h k q =
       row-value (sheetGame d) (stateCount d) (KeptNumber d) (λ j r. r .low) (λ j r. r .kept)
@@ -71,7 +72,8 @@ module _ (d : Decoded) (fits : stateCount d ≤ maxStates) where
     pub value-is : getD (valuesOf d h) k 0 ≡ bestAt d h (stateOf d k)
     value-is =
         row-is h k q
-        ∙ value-named ℕ (List ℕ) (inputsOf d) (outputsOf d) (cellNext (sheetGame d)) (advance d) (mayGive (sheetGame d)) (mayAt d) (KeptNumber d)
+        ∙ value-named ℕ (List ℕ) (inputsOf d) (outputsOf d) (cellNext (sheetGame d)) (advance d) (mayGive (sheetGame d)) (mayAt d)
+        (KeptNumber d)
         (stateOf d) (plays d fits) (earns (sheetGame d)) (reward d) (λ j i o r. earns-is d fits j i o (r .low)) h k q
 
     -- an output that may be given has the score of the tuple's
@@ -81,7 +83,8 @@ module _ (d : Decoded) (fits : stateCount d ≤ maxStates) where
     score-is i o hi ho t =
         ap (λ (x : ℕ). earns (sheetGame d) k i o * inputsOf d ^ h + x)
         (row-is h (cellNext (sheetGame d) k i o) (next-inside d fits k i o (q .low) hi ho t))
-        ∙ score-named ℕ (List ℕ) (inputsOf d) (outputsOf d) (cellNext (sheetGame d)) (advance d) (mayGive (sheetGame d)) (mayAt d) (KeptNumber d)
+        ∙ score-named ℕ (List ℕ) (inputsOf d) (outputsOf d) (cellNext (sheetGame d)) (advance d) (mayGive (sheetGame d)) (mayAt d)
+        (KeptNumber d)
         (stateOf d) (plays d fits) (earns (sheetGame d)) (reward d) (λ j u v r. earns-is d fits j u v (r .low)) h k i o q hi ho t
 
     -- and the output chosen is the tuple's choice
@@ -91,5 +94,7 @@ module _ (d : Decoded) (fits : stateCount d ≤ maxStates) where
         chosen-choice (sheetGame d) (stateCount d) (KeptNumber d) (λ j r. r .low) (λ j r. r .kept)
         (λ j u o r. next-inside d fits j u o (r .low)) (d .literals) (valuesOf d h) (zeros (stateCount d * inputsOf d))
         (omega (arith, length-replicate {A = ℕ} (stateCount d * inputsOf d) 0)) h (row-is h) k i q hi
-        ∙ choice-named ℕ (List ℕ) (inputsOf d) (outputsOf d) (cellNext (sheetGame d)) (advance d) (mayGive (sheetGame d)) (mayAt d) (KeptNumber d)
-        (stateOf d) (plays d fits) (earns (sheetGame d)) (reward d) (λ j u v r. earns-is d fits j u v (r .low)) (rank (d .literals)) h k i q hi
+        ∙ choice-named ℕ (List ℕ) (inputsOf d) (outputsOf d) (cellNext (sheetGame d)) (advance d) (mayGive (sheetGame d)) (mayAt d)
+        (KeptNumber d)
+        (stateOf d) (plays d fits) (earns (sheetGame d)) (reward d) (λ j u v r. earns-is d fits j u v (r .low)) (rank (d .literals)) h k i
+        q hi

@@ -153,7 +153,8 @@ module _ {s : List ℕ} {sheet : Sheet} (fits : Fits s sheet) {n : ℕ} {tuples 
                 (row-valued game n values₀ (omega (arith, most)) (plan-sized wide-cells wide-dropped) h (plan-words h far .0)
                 (plan-words h far .1))
 
-            module _ {choices : List ℕ} (chose : choices ≡ vals.choices game n (literalsOf (sheet .literals) (sheet .outputs)) values words choices₀) where
+            module _ {choices : List ℕ} (chose : choices ≡ vals.choices game n (literalsOf (sheet .literals) (sheet .outputs)) values
+                words choices₀) where
               -- the choices are those over the horizon
               by-horizon : choices ≡ choicesBy game n (decoded s sheet .literals) h values₀ choices₀
               unfolding literalsOf
@@ -204,7 +205,8 @@ module _ {s : List ℕ} {sheet : Sheet} (fits : Fits s sheet) {n : ℕ} {tuples 
                     table =
                         ap (λ (m : ℕ). tableBy (decoded s sheet .mode) (inputLines (decoded s sheet)) (decoded s sheet .outputs) h m
                         (stepsOf cells ins outs) choices order numbers) (done′ .counted)
-                        ∙ code-table (decoded s sheet) (few (p .solution)) (sym (p .solution .start-kept)) h n game values₀ choices₀ same ins-are
+                        ∙ code-table (decoded s sheet) (few (p .solution)) (sym (p .solution .start-kept)) h n game values₀ choices₀ same
+                        ins-are
                         choices by-horizon order numbers (done′ .states)
                         (λ k l has. done′ .entries k l ∙ entry-met (guardOf (decoded s sheet) h) k has)
                         _ _ (λ j i hj hi. refl) (λ j i hj hi. refl);

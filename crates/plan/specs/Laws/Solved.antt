@@ -98,7 +98,8 @@ module _
             }
 
         -- and of the sizes that working out values relies on
-        pub sized : SheetOk d → cellsLength ≤ length cells → maxStates ≤ length dropped → maxStates ≤ length gains → maxLetters ≤ length bonuses
+        pub sized : SheetOk d → cellsLength ≤ length cells → maxStates ≤ length dropped → maxStates ≤ length gains
+            → maxLetters ≤ length bonuses
             → SizedGame (record { cells = cells; dropped = dropped; gains = gains; bonuses = bonuses; ins = ins; outs = outs }) n
         sized ok wide-cells wide-dropped wide-gains wide-bonuses =
             let most : n ≤ maxStates = solution .numbering .most in

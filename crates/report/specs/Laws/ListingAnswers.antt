@@ -47,7 +47,8 @@ writes-text {place = place} {words} {before} e p h =
       inside = omega (arith, size, put-same p);
     }
 
-pub writes-short : {due : Bool} {words before : List ℕ} → due ≡ true → length before < length words → Writes due words before ShortText before
+pub writes-short : {due : Bool} {words before : List ℕ} → due ≡ true → length before < length words
+    → Writes due words before ShortText before
 unfolding textNumber
 writes-short {words = words} {before} e h =
     record { number-is = rw (e, lt-ltb (length before) (length words) h); size = refl; bytes = refl; inside = omega arith }
@@ -64,7 +65,8 @@ writes-fits {words = words} {before} w e h = w .number-is ∙ rw (e, le-ltb (len
 
 -- what was made is told by the call for its case
 module _ (made : Made) (result : List ℕ) {before : List ℕ} where
-  pub outcome-refused : {ground : Refusal} → made ≡ Refused ground → {r : Listed} {number : ℕ} {after : List ℕ} → number ≡ groundNumber ground
+  pub outcome-refused : {ground : Refusal} → made ≡ Refused ground → {r : Listed} {number : ℕ} {after : List ℕ}
+      → number ≡ groundNumber ground
       → Writes true (refusedText number) before r after → Writes (outcomeDue made result) (outcomeText made result) before r after
   unfolding outcomeDue outcomeText
   outcome-refused e f w = rw (e, ← f) w
@@ -167,7 +169,8 @@ ground-most ShortWork = omega arith
 -- no text that is due for a maker's answer is longer than the longest listing
 pub outcome-most : (made : Made) (result : List ℕ) → outcomeDue made result ≡ true → length (outcomeText made result) ≤ textLength
 unfolding outcomeDue outcomeText
-outcome-most (Table size states) result e = listing-most (take size result) (and-right (leb size (length result)) (loadable (take size result)) e)
+outcome-most (Table size states) result e = listing-most (take size result)
+    (and-right (leb size (length result)) (loadable (take size result)) e)
 outcome-most (Refused ground) result e =
     let number = groundNumber ground in
     omega (arith, length-refused number, three-most number (omega (arith, ground-most ground)))
@@ -183,4 +186,8 @@ module _ (mode inputs outputs horizon count : ℕ) (out next : ℕ → ℕ → �
       rw (head .count-is, head .inputs-is, head .outputs-is, head .horizon-is)
       (ap (λ (l : List ℕ). headLine count inputs outputs horizon ++ l)
       (cat-ext count _ _ (λ k h. ap (λ (l : List ℕ). decimal k ++ (58 ∷ (l ++ lineEnd)))
-      (cat-ext (2 ^ inputs) _ _ (λ i l. rw (entry-output mode inputs outputs horizon count out next k h i l, entry-next mode inputs outputs horizon count out next k h i l))))))
+      (cat-ext (2 ^ inputs) _ _ (λ i l. rw (
+        entry-output mode inputs outputs horizon count out next k h i l,
+        entry-next mode inputs outputs horizon count out next k h i
+            l,
+      ))))))

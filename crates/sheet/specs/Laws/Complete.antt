@@ -131,7 +131,12 @@ length-head d o = omega (arith, o .literals)
 length-front : (d : Decoded) (j : ℕ) → length (front d (suc j)) ≡ length (front d j) + length (block d j)
 unfolding cat
 length-front d j =
-    rw (length-append (encodeHead d) (cat j (block d) ++ block d j), length-append (cat j (block d)) (block d j), length-append (encodeHead d) (cat j (block d)))
+    rw (
+      length-append (encodeHead d) (cat j (block d) ++ block d j),
+      length-append (cat j (block d)) (block d j),
+      length-append
+          (encodeHead d) (cat j (block d)),
+    )
     (omega arith)
 
 module _ (d : Decoded) (o : SheetOk d) where
@@ -143,8 +148,11 @@ module _ (d : Decoded) (o : SheetOk d) where
   around : (j : ℕ) → j < length (d .monitors) → (r : List ℕ) × (encode d ≡ front d j ++ (block d j ++ r))
   around j l =
       let c : (r : List ℕ) × (cat (length (d .monitors)) (block d) ≡ cat j (block d) ++ (block d j ++ r)) =
-      cat-at (length (d .monitors)) (block d) j l in
-      (c .0, whole ∙ ap (λ (t : List ℕ). encodeHead d ++ t) (c .1) ∙ sym (append-assoc (encodeHead d) (cat j (block d)) (block d j ++ c .0)))
+      cat-at (length (d .monitors)) (block d) j l in (
+        c .0,
+        whole ∙ ap (λ (t : List ℕ). encodeHead d ++ t) (c .1) ∙ sym
+            (append-assoc (encodeHead d) (cat j (block d)) (block d j ++ c .0)),
+      )
 
   -- its record begins where the reader looks for it
   offset-is : (j : ℕ) → j ≤ length (d .monitors) → offset (encode d) j ≡ length (front d j)
@@ -207,7 +215,8 @@ module _ (d : Decoded) (o : SheetOk d) where
       let r : (r : List ℕ) × (encode d ≡ front d j ++ (block d j ++ r)) = around j l in
       rw (placed-at (encode d) n j (o .count) l, offset-is j (omega arith))
       (sym
-      (monitor-back (encode d) (front d j) (r .0) d (monitorOf d j) (o .monitor j l) (r .1) (upto (encode d) n) (upto-mode n) (upto-site n) (upto-outputs n)))
+      (monitor-back (encode d) (front d j) (r .0) d (monitorOf d j) (o .monitor j l) (r .1) (upto (encode d) n) (upto-mode n)
+      (upto-site n) (upto-outputs n)))
 
   -- and the layout stands for it
   pub decoded-back : decoded (encode d) (upto (encode d) (length (d .monitors))) ≡ d
@@ -223,7 +232,8 @@ module _ (d : Decoded) (o : SheetOk d) where
         matching = matching-back (encode d) r d (o .head) whole t;
         literals = literals-back (encode d) r d (o .head) whole t;
         monitors =
-            sym (tab-eq noAutomaton n (λ j. automaton (encode d) (upto (encode d) n) (placed (upto (encode d) n) j)) (d .monitors) refl monitor-there) t;
+            sym (tab-eq noAutomaton n (λ j. automaton (encode d) (upto (encode d) n) (placed (upto (encode d) n) j)) (d .monitors) refl
+            monitor-there) t;
       }
 
 -- ---- what a sheet in bounds promises

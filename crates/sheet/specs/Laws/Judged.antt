@@ -86,7 +86,8 @@ literals-facts s at o e =
     let third : (j : ℕ) → Bool = λ j. freshLine s at j in
     record {
       byte = λ j h. ltb-true (getD s (at + j) 0) literalEnd (and-left (first j) (second j && third j) (each j h));
-      line = λ j h. ltb-true (getD s (at + j) 0 % 8) o (and-left (second j) (third j) (and-right (first j) (second j && third j) (each j h)));
+      line = λ j h. ltb-true (getD s (at + j) 0 % 8) o
+          (and-left (second j) (third j) (and-right (first j) (second j && third j) (each j h)));
       once = λ i j l h. eqb-false (getD s (at + i) 0 % 8) (getD s (at + j) 0 % 8)
           (not-true (eqb (getD s (at + i) 0 % 8) (getD s (at + j) 0 % 8))
           (all-at j (λ i. not (eqb (getD s (at + i) 0 % 8) (getD s (at + j) 0 % 8)))

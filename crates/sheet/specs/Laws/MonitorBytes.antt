@@ -71,7 +71,8 @@ module _ (s p r : List ℕ) (d : Decoded) (a : Automaton) (o : MonitorOk d a) (e
       let n : ℕ = 4 + length (a .accept) + length (a .accept) * letters d a in
       rw (add-assoc (length p) 4 4, add-assoc (length p) 8 k)
       (from (8 + k)
-      ∙ getD-append-add (n % 256 ∷ n / 256 ∷ 2 ∷ 0 ∷ a .role ∷ a .weight ∷ length (a .accept) ∷ a .start ∷ []) ((a .accept ++ rowBytes a) ++ r) k 0)
+      ∙ getD-append-add (n % 256 ∷ n / 256 ∷ 2 ∷ 0 ∷ a .role ∷ a .weight ∷ length (a .accept) ∷ a .start ∷ [])
+      ((a .accept ++ rowBytes a) ++ r) k 0)
 
   accept-back : (q : ℕ) → q < length (a .accept) → getD s (length p + 4 + 4 + q) 0 ≡ getD (a .accept) q 0
   accept-back q l =
@@ -134,7 +135,8 @@ module _ (s p r : List ℕ) (d : Decoded) (a : Automaton) (o : MonitorOk d a) (e
           role = role-back t;
           weight = weight-back t;
           start = start-back t;
-          accept = sym (tab-eq 0 (length (a .accept)) (λ q. getD s (length p + 4 + 4 + q) 0) (a .accept) refl (λ q l. sym (accept-back q l))) t;
+          accept = sym (tab-eq 0 (length (a .accept)) (λ q. getD s (length p + 4 + 4 + q) 0) (a .accept) refl
+              (λ q l. sym (accept-back q l))) t;
           rows =
               sym
               (tab-eq [] (length (a .accept))

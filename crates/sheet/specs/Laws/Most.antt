@@ -33,7 +33,8 @@ head-most : (s : List ℕ) (start size : ℕ) → headNumber s start size ≤ 6
 unfolding headNumber
 head-most s start size =
     either (headOk s start size) _ 3
-    (either (horizonOk (guardLines (modeAt s start) (siteAt s start) (outputsAt s start)) (horizonAt s start)) 0 6 (omega arith) (omega arith))
+    (either (horizonOk (guardLines (modeAt s start) (siteAt s start) (outputsAt s start)) (horizonAt s start)) 0 6 (omega arith)
+    (omega arith))
     (omega arith)
 
 monitor-most : (s : List ℕ) (head start size : ℕ) → monitorNumber s head start size ≤ 6

@@ -61,5 +61,6 @@ module _ (s : List ℕ) (h : Sheet) (m : Monitor) where
   rows-are =
       rw length-rows
       (cat-ext (m .states) (λ q. getD (automaton s h m .rows) q []) (λ q. part s (m .rows + q * width h m) (width h m))
-      (λ q l. row-at q l ∙ tab-ext (width h m) (λ l. getD s (m .rows + (q * width h m + l)) 0) (λ l. getD s (m .rows + q * width h m + l) 0) (λ l u. rw add-assoc))
+      (λ q l. row-at q l ∙ tab-ext (width h m) (λ l. getD s (m .rows + (q * width h m + l)) 0)
+      (λ l. getD s (m .rows + q * width h m + l) 0) (λ l u. rw add-assoc))
       ∙ sym (part-cat s (m .rows) (m .states) (width h m)))

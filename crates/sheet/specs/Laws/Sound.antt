@@ -33,14 +33,16 @@ use Rattle.sheet.specs.declared.layout.Sheet.{Sheet}
 -- ---- the head
 
 -- the literals of a head's layout are the bytes after its five numbers
-pub literal-is : (s : List ℕ) (j : ℕ) → j < outputsAt s 4 → outputsAt s 4 ≤ maxOutputs → getD (headSheet s 4 .literals) j 0 ≡ getD s (9 + j) 0
+pub literal-is : (s : List ℕ) (j : ℕ) → j < outputsAt s 4 → outputsAt s 4 ≤ maxOutputs
+    → getD (headSheet s 4 .literals) j 0 ≡ getD s (9 + j) 0
 unfolding headSheet literalAt
 literal-is s zero h m = rw (lt-ltb 0 (outputsAt s 4) h)
 literal-is s (suc zero) h m = rw (lt-ltb 1 (outputsAt s 4) h)
 literal-is s (suc (suc zero)) h m = rw (lt-ltb 2 (outputsAt s 4) h)
 literal-is s (suc (suc (suc j))) h m = absurd (omega arith)
 
-literal-at : (s : List ℕ) (k j : ℕ) → j < outputsAt s 4 → outputsAt s 4 ≤ maxOutputs → getD (decoded s (upto s k) .literals) j 0 ≡ getD s (9 + j) 0
+literal-at : (s : List ℕ) (k j : ℕ) → j < outputsAt s 4 → outputsAt s 4 ≤ maxOutputs
+    → getD (decoded s (upto s k) .literals) j 0 ≡ getD s (9 + j) 0
 unfolding decoded upto
 literal-at s k j h m = getD-tab (outputsAt s 4) (λ i. getD (headSheet s 4 .literals) i 0) j 0 h ∙ literal-is s j h m
 
@@ -60,22 +62,34 @@ head-ok s k size b n l =
       literals = length-tab (outputsAt s 4) (λ i. getD (headSheet s 4 .literals) i 0);
       literal-byte = λ j h. rw (literal-at s k j h (n .outputs-most)) (l .byte j h);
       literal-line = λ j h. rw (literal-at s k j h (n .outputs-most)) (l .line j h);
-      literal-once = λ i j u h e. l .once i j u h (rw (literal-at s k i (omega arith) (n .outputs-most), literal-at s k j h (n .outputs-most)) at e);
+      literal-once = λ i j u h e. l .once i j u h
+          (rw (literal-at s k i (omega arith) (n .outputs-most), literal-at s k j h (n .outputs-most)) at e);
     }
 
-horizon-ok : (s : List ℕ) (k : ℕ) → Horizon (guardLines (modeAt s 4) (siteAt s 4) (outputsAt s 4)) (horizonAt s 4) → HorizonOk (decoded s (upto s k))
+horizon-ok : (s : List ℕ) (k : ℕ) → Horizon (guardLines (modeAt s 4) (siteAt s 4) (outputsAt s 4)) (horizonAt s 4)
+    → HorizonOk (decoded s (upto s k))
 unfolding decoded upto
 horizon-ok s k h = record { most = h .most; product-most = h .product-most }
 
 -- the head's bytes
-head-bytes : (s : List ℕ) (k : ℕ) → Bytes s → kindAt s 0 ≡ 1 → JudgedNumbers (modeAt s 4) (siteAt s 4) (outputsAt s 4) (matchingAt s 4) (sizeAt s 0)
+head-bytes : (s : List ℕ) (k : ℕ) → Bytes s → kindAt s 0 ≡ 1 → JudgedNumbers (modeAt s 4) (siteAt s 4) (outputsAt s 4) (matchingAt s 4)
+    (sizeAt s 0)
     → encodeHead (decoded s (upto s k)) ≡ part s 0 (offset s 0)
 unfolding encodeHead decoded upto offset
 head-bytes s k b e n =
     let lits : tab (outputsAt s 4) (λ j. getD (headSheet s 4 .literals) j 0) ≡ part s 9 (outputsAt s 4) =
-    unfold part in tab-ext (outputsAt s 4) (λ j. getD (headSheet s 4 .literals) j 0) (λ j. getD s (9 + j) 0) (λ j h. literal-is s j h (n .outputs-most)) in
+    unfold part in tab-ext (outputsAt s 4) (λ j. getD (headSheet s 4 .literals) j 0) (λ j. getD s (9 + j) 0)
+    (λ j h. literal-is s j h (n .outputs-most)) in
     let five : part s 4 5 ≡ modeAt s 4 ∷ siteAt s 4 ∷ outputsAt s 4 ∷ horizonAt s 4 ∷ matchingAt s 4 ∷ [] = unfold part tab in refl in
-    rw (lits, n .size-is, part-add s 0 4 (5 + outputsAt s 4), part-add s 4 5 (outputsAt s 4), header-there s 0 (5 + outputsAt s 4) 1 b (n .size-is) e, five)
+    rw (
+      lits,
+      n .size-is,
+      part-add s 0 4 (5 + outputsAt s 4),
+      part-add s 4 5 (outputsAt s 4),
+      header-there s 0 (5 + outputsAt s 4) 1 b
+          (n .size-is) e,
+      five,
+    )
 
 -- ---- a monitor
 
@@ -159,7 +173,8 @@ module _ (s : List ℕ) (b : Bytes s) (k : ℕ) (c : Chain s k) where
       → Role (modeAt s 4) (roleAt s (bodyAt (offset s j))) (weightAt s (bodyAt (offset s j)))
       × Body s (bodyAt (offset s j)) (lettersRead (roleAt s (bodyAt (offset s j))) (siteAt s 4) (outputsAt s 4)) (sizeAt s (offset s j))
   unfolding upto
-  body j l = monitor-facts s (upto s j .mode) (upto s j .site) (upto s j .outputs) (bodyAt (offset s j)) (sizeAt s (offset s j)) (c .turn j l .ok)
+  body j l = monitor-facts s (upto s j .mode) (upto s j .site) (upto s j .outputs) (bodyAt (offset s j)) (sizeAt s (offset s j))
+      (c .turn j l .ok)
 
   monitor-at : (j : ℕ) → j < k → monitorOf (decoded s (upto s k)) j ≡ automaton s (upto s k) (monitorAt s (bodyAt (offset s j)))
   unfolding upto
@@ -168,7 +183,8 @@ module _ (s : List ℕ) (b : Bytes s) (k : ℕ) (c : Chain s k) where
   sheet-ok : SheetOk (decoded s (upto s k))
   unfolding upto
   sheet-ok =
-      let f : JudgedNumbers (modeAt s 4) (siteAt s 4) (outputsAt s 4) (matchingAt s 4) (sizeAt s 0) × Literals s (literalsFrom 4) (outputsAt s 4) = head-judged s (sizeAt s 0) (c .head) in
+      let f : JudgedNumbers (modeAt s 4) (siteAt s 4) (outputsAt s 4) (matchingAt s 4) (sizeAt s 0)
+      × Literals s (literalsFrom 4) (outputsAt s 4) = head-judged s (sizeAt s 0) (c .head) in
       let n : length (decoded s (upto s k) .monitors) ≡ k = length-monitors s (upto s k) in
       record {
         head = head-ok s k (sizeAt s 0) b (f .0) (f .1);
@@ -189,7 +205,8 @@ module _ (s : List ℕ) (b : Bytes s) (k : ℕ) (c : Chain s k) where
       (monitor-bytes s (upto s k) (offset s j) (sizeAt s (offset s j)) b refl (c .turn j l .kind) (body j l .1))
 
   blocks : (j : ℕ) → j ≤ k
-      → encodeHead (decoded s (upto s k)) ++ cat j (λ i. encodeMonitor (decoded s (upto s k)) (monitorOf (decoded s (upto s k)) i)) ≡ part s 0 (offset s j)
+      → encodeHead (decoded s (upto s k)) ++ cat j (λ i. encodeMonitor (decoded s (upto s k)) (monitorOf (decoded s (upto s k)) i))
+      ≡ part s 0 (offset s j)
   unfolding cat offset
   blocks zero l = rw append-nil (head-bytes s k b (c .kind) (head-judged s (sizeAt s 0) (c .head) .0))
   blocks (suc j) l =

@@ -93,7 +93,8 @@ unfolding upto monitorPlaces
 placed-at s zero j h l = absurd (omega arith)
 placed-at s (suc k) j h l =
     cases-suc j k l
-    (λ u. getD-set-other (monitorPlaces s k) k j (monitorAt s (bodyAt (offset s k))) noMonitor (omega arith) ∙ placed-at s k j (omega arith) u)
+    (λ u. getD-set-other (monitorPlaces s k) k j (monitorAt s (bodyAt (offset s k))) noMonitor (omega arith)
+    ∙ placed-at s k j (omega arith) u)
     (λ e. rw e (getD-set-same (monitorPlaces s k) k (monitorAt s (bodyAt (offset s k))) noMonitor (rw (length-places s k) (omega arith))))
 
 room : (s : List ℕ) (k : ℕ) → k < maxMonitors → upto s k .count < maxMonitors
@@ -117,11 +118,13 @@ take-passes : (s : List ℕ) (h : Sheet) (kind start size : ℕ) (next : Sheet �
     → chained (takeRecord s h kind start size) next ≡ 0
     → (eqb kind 2 ≡ true) × (leb maxMonitors (h .count) ≡ false) × (monitorOk s (h .mode) (h .site) (h .outputs) start size ≡ true)
 unfolding takeRecord takeMonitor
-take-passes s h kind start size next = go (eqb kind 2) (leb maxMonitors (h .count)) (monitorOk s (h .mode) (h .site) (h .outputs) start size)
+take-passes s h kind start size next = go (eqb kind 2) (leb maxMonitors (h .count))
+    (monitorOk s (h .mode) (h .site) (h .outputs) start size)
   where
     go : (a b c : Bool)
         → chained
-        (cond a (cond b (refused SeventhMonitor) (cond c (accepted (withMonitor h (monitorAt s start))) (refused BadMonitor))) (refused Misplaced))
+        (cond a (cond b (refused SeventhMonitor) (cond c (accepted (withMonitor h (monitorAt s start))) (refused BadMonitor)))
+        (refused Misplaced))
         next ≡ 0
         → (a ≡ true) × (b ≡ false) × (c ≡ true)
     go true true c e = absurd (omega arith)
@@ -230,7 +233,8 @@ chain-of s e =
     (λ f m.
     by-test (eqb (kindAt s 0) 1)
     (λ t.
-    let passes : (headOk s 4 (sizeAt s 0) ≡ true) × (horizonOk (guardLines (modeAt s 4) (siteAt s 4) (outputsAt s 4)) (horizonAt s 4) ≡ true) =
+    let passes : (headOk s 4 (sizeAt s 0) ≡ true)
+    × (horizonOk (guardLines (modeAt s 4) (siteAt s 4) (outputsAt s 4)) (horizonAt s 4) ≡ true) =
     head-passes s 4 (sizeAt s 0) (λ h. readRecords (suc (length s)) s h (offset s 0)) (rw (f, t) at e) in
     let kind : kindAt s 0 ≡ 1 = eqb-true (kindAt s 0) 1 t in
     let more : reading s ≡ readRecords (suc (length s)) s (upto s 0) (offset s 0) = head-whole s kind (passes .0) (passes .1) m in

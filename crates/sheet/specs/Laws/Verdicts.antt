@@ -67,7 +67,8 @@ body-number s head room h start size u = rw (u .mode, u .site, u .outputs)
 -- with room for one: if accepted, the layout has it, and the next record is read
 take-one : (s : List ℕ) (head room : ℕ) (h : Sheet) (kind start size : ℕ) (next : Sheet → Reading) → Under s head (suc room) h
     → chained (takeRecord s h kind start size) next
-    ≡ unless (eqb kind 2) 2 (firstNumber (monitorNumber s head start size) (verdictNumber (next (withMonitor h (monitorAt s start)) .verdict)))
+    ≡ unless (eqb kind 2) 2 (firstNumber (monitorNumber s head start size)
+    (verdictNumber (next (withMonitor h (monitorAt s start)) .verdict)))
 unfolding takeRecord takeMonitor
 take-one s head room h kind start size next u =
     rw (lt-leb maxMonitors (h .count) (omega (arith, u .count)), body-number s head (suc room) h start size u)
@@ -134,7 +135,8 @@ verdict-number s =
     (λ f m. rw (f, le-ltb 0 (length s) m))
     (λ f m. rw f)
     (λ f m.
-    let more : verdictNumber (readRecords (suc (length s)) s (headSheet s (bodyAt 0)) (endAt s 0) .verdict) ≡ recordsNumber maxMonitors s (bodyAt 0) (endAt s 0) =
+    let more : verdictNumber (readRecords (suc (length s)) s (headSheet s (bodyAt 0)) (endAt s 0) .verdict)
+    ≡ recordsNumber maxMonitors s (bodyAt 0) (endAt s 0) =
     records-number (suc (length s)) maxMonitors s (bodyAt 0) (headSheet s (bodyAt 0)) (endAt s 0) (under-head s (bodyAt 0)) (omega arith) in
     rw (f, lt-ltb 0 (length s) (omega arith))
     (by-test (eqb (kindAt s 0) 1)

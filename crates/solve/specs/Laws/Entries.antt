@@ -190,5 +190,6 @@ module _ (d : Decoded) where
         let e : leadsIn (cellsOf d) (droppedOf d) (cellAt (inputsOf d) (outputsOf d) (numberOf d t) i o)
         ≡ may (List ℕ) (inputsOf d) (outputsOf d) (advance d) (unbroken d) (stateCount d) t i o =
         leads-may (numberOf d t) i o (reached-number d fits t .0 r) hi ho
-        ∙ ap (λ (u : List ℕ). may (List ℕ) (inputsOf d) (outputsOf d) (advance d) (unbroken d) (stateCount d) u i o) (number-state d fits t r) in
+        ∙ ap (λ (u : List ℕ). may (List ℕ) (inputsOf d) (outputsOf d) (advance d) (unbroken d) (stateCount d) u i o)
+        (number-state d fits t r) in
         (λ y. x .0 (sym e ∙ y), λ a. e ∙ x .1 a)

@@ -225,7 +225,8 @@ module _
               λ e y.
                   number-cases (y .0) (length (table (y .0))) (length before)
                   (λ h q. omega (arith, e .0, e .1, judged w (y .0) (y .1))) (λ f i q. omega (arith, e .0, e .1, judged w (y .0) (y .1)))
-                  (λ f i l q. omega (arith, e .0, e .1, judged w (y .0) (y .1))) (λ f i l q. omega (arith, e .0, e .1, judged w (y .0) (y .1))),
+                  (λ f i l q. omega (arith, e .0, e .1, judged w (y .0) (y .1)))
+                  (λ f i l q. omega (arith, e .0, e .1, judged w (y .0) (y .1))),
               λ none. let x = bad w none in (some (sheetNumber s) (x .1) (x .0), omega (arith, x .0, number-most s)),
             );
             ground = λ w none. bad w none .0;

@@ -46,7 +46,8 @@ makingNumber table work s room =
     cond work (firstNumber (sheetNumber s) (tableNumber (sheetOf s) (length (table (sheetOf s))) room)) 10
 
 -- for a sheet in bounds: the answer and the result by the model
-pub record Judges (table : Decoded → List ℕ) (stateCounts : Decoded → ℕ) (d : Decoded) (before : List ℕ) (r : Made) (after : List ℕ) : Type 0 where
+pub record Judges (table : Decoded → List ℕ) (stateCounts : Decoded → ℕ) (d : Decoded) (before : List ℕ) (r : Made) (after : List ℕ) :
+    Type 0 where
   pub number : madeNumber r ≡ tableNumber d (length (table d)) (length before)
   pub size : madeLength r ≡ cond (eqb (madeNumber r) 0) (length (table d)) 0
   pub states : madeStates r ≡ cond (eqb (madeNumber r) 0) (stateCounts d) 0
@@ -55,7 +56,8 @@ pub record Judges (table : Decoded → List ℕ) (stateCounts : Decoded → ℕ)
 -- ---- the promise: `work` says that the work memory is long enough, `before` and `after` are the result memory
 
 -- the answer and the result by the model
-pub record Answers (table : Decoded → List ℕ) (stateCounts : Decoded → ℕ) (work : Bool) (s before : List ℕ) (r : Made) (after : List ℕ) : Type 0 where
+pub record Answers (table : Decoded → List ℕ) (stateCounts : Decoded → ℕ) (work : Bool) (s before : List ℕ) (r : Made) (after : List ℕ) :
+    Type 0 where
   pub number : madeNumber r ≡ makingNumber table work s (length before)
   pub size : madeLength r ≡ cond (eqb (madeNumber r) 0) (length (table (sheetOf s))) 0
   pub states : madeStates r ≡ cond (eqb (madeNumber r) 0) (stateCounts (sheetOf s)) 0

@@ -34,7 +34,8 @@ pub record Opened (ok : Bool) (s : List ℕ) (sheet : Sheet) (n kept : ℕ) (tup
 -- the refusal is the answer, whatever the table and the result memory
 abbrev pub Refuses : Bool → List ℕ → Refusal → Type 0
 Refuses ok s ground =
-    (table : Decoded → List ℕ) (stateCounts : Decoded → ℕ) (before : List ℕ) → Answers table stateCounts ok s before (made.Refused ground) before
+    (table : Decoded → List ℕ) (stateCounts : Decoded → ℕ) (before : List ℕ)
+    → Answers table stateCounts ok s before (made.Refused ground) before
 
 -- `ok` says that the work memory is long enough
 abbrev pub Opens : Bool → List ℕ → Verdict → Sheet → ℕ → ℕ → List ℕ → List ℕ → List ℕ → Type 0

@@ -28,7 +28,8 @@ pub record Unwritten (before : List ℕ) (r : Made) (after : List ℕ) : Type 0 
   pub bytes : after ≡ before
 
 -- and what the answer means, over the sheet whose bytes were given
-pub record Makes (table : Decoded → List ℕ) (stateCounts : Decoded → ℕ) (work : Bool) (s before : List ℕ) (r : Made) (after : List ℕ) : Type 0 where
+pub record Makes (table : Decoded → List ℕ) (stateCounts : Decoded → ℕ) (work : Bool) (s before : List ℕ) (r : Made) (after : List ℕ) :
+    Type 0 where
   pub answers : Answers table stateCounts work s before r after
   -- none of 1 to 6 is due exactly if the bytes are a sheet's in bounds
   pub in-bounds : (sheetNumber s ≡ 0) ↔ ((d : Decoded) × IsSheet s d)

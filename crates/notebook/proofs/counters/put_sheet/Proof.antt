@@ -52,7 +52,8 @@ loop-less c = omega arith
 loop-again : tie.Need-loop-again Inv-loop μ-loop
 loop-again c = (
   omega arith,
-  subst (λ (j : ℕ). Elements (entry c .args .sheet .now) 0 (sheetByte (entry c .args .n) (entry c .args .m)) (c .before .before .loop .k + 1) (set (c .before .before .loop .sheet) j (c .sheet-byte .result)))
+  subst (λ (j : ℕ). Elements (entry c .args .sheet .now) 0 (sheetByte (entry c .args .n) (entry c .args .m))
+      (c .before .before .loop .k + 1) (set (c .before .before .loop .sheet) j (c .sheet-byte .result)))
       (zero-add (c .before .before .loop .k)) (more (c .before .before .loop .inv .1) (c .sheet-byte .ensures)),
 )
 

@@ -17,7 +17,8 @@ entry c = c .before .before
 abbrev put : tie.After-guard-of → tie.After-put-sheet
 put c = c .before .before .before
 
-bytes : (c : tie.After-put-sheet) → Written (c .put-sheet .result) (c .put-sheet .last .0) (sheetBytes (entry c .args .n) (entry c .args .m))
+bytes : (c : tie.After-put-sheet) → Written (c .put-sheet .result) (c .put-sheet .last .0)
+    (sheetBytes (entry c .args .n) (entry c .args .m))
 bytes c = written (entry c .args .n) (entry c .args .m) (entry c .pre .0) (entry c .pre .1) (c .put-sheet .ensures)
 
 slice-aggregate-put-sheet : tie.Need-slice-aggregate-put-sheet

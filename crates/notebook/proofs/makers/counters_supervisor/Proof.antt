@@ -18,7 +18,8 @@ entry c = c .before .before
 abbrev put : tie.After-supervisor-of → tie.After-put-sheet
 put c = c .before .before .before
 
-bytes : (c : tie.After-put-sheet) → Written (c .put-sheet .result) (c .put-sheet .last .0) (sheetBytes (entry c .args .n) (entry c .args .m))
+bytes : (c : tie.After-put-sheet) → Written (c .put-sheet .result) (c .put-sheet .last .0)
+    (sheetBytes (entry c .args .n) (entry c .args .m))
 bytes c = written (entry c .args .n) (entry c .args .m) (entry c .pre .0) (entry c .pre .1) (c .put-sheet .ensures)
 
 slice-aggregate-put-sheet : tie.Need-slice-aggregate-put-sheet
@@ -38,7 +39,8 @@ supervisor-of-requires c κs = tt
 
 returns : tie.Need-returns
 returns c =
-    subst (λ (s : List ℕ). Answered supervisorTable stateCount s 2048 (c .supervisor-of .result)) (bytes (put c) .part) (c .supervisor-of .ensures)
+    subst (λ (s : List ℕ). Answered supervisorTable stateCount s 2048 (c .supervisor-of .result)) (bytes (put c) .part)
+    (c .supervisor-of .ensures)
 
 pub counters-supervisor-spec : {M : Type 1} → statement M
 counters-supervisor-spec =

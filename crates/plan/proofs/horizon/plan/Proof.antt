@@ -41,7 +41,8 @@ chosen c = chose (done c .before)
 
 -- the table has the sizes that working out values relies on
 sized : (c : tie.After-fill-bonuses) → let a = entry c .args in
-    SizedGame (gameOf (a .cells .now) (a .dropped .now) (earned (c .before) .fill-gains .last .1 .1 .1 .0) (c .fill-bonuses .last .1 .0) (a .ins) (a .outs)) (a .n)
+    SizedGame (gameOf (a .cells .now) (a .dropped .now) (earned (c .before) .fill-gains .last .1 .1 .1 .0) (c .fill-bonuses .last .1 .0)
+    (a .ins) (a .outs)) (a .n)
 sized c = let s = entry c in
     let long = s .pre .1 .1 .1 in
     plan-sized (s .pre .0) (s .pre .1 .0) (s .args .ins) (s .args .outs) (s .pre .1 .1 .0 .0) (s .pre .1 .1 .0 .1 .0)
@@ -49,8 +50,16 @@ sized c = let s = entry c in
     (long .gains-long) (long .bonuses-long) (long .cells-long) (long .dropped-long)
 
 fill-gains-requires : tie.Need-fill-gains-requires
-fill-gains-requires c κs = let s = start c in
-    (s .pre .0, (tuples-in-range (s .pre .0 .ok) (s .pre .1 .0), (s .pre .1 .0 .solution .numbering .most, (s .pre .1 .1 .1 .tuples-long, omega (arith, s .pre .1 .0 .solution .numbering .most, s .pre .1 .1 .1 .gains-long)))))
+fill-gains-requires c κs = let s = start c in (
+  s .pre .0,
+  (
+    tuples-in-range (s .pre .0 .ok) (s .pre .1 .0),
+    (
+      s .pre .1 .0 .solution .numbering .most,
+      (s .pre .1 .1 .1 .tuples-long, omega (arith, s .pre .1 .0 .solution .numbering .most, s .pre .1 .1 .1 .gains-long)),
+    ),
+  ),
+)
 
 fill-bonuses-requires : tie.Need-fill-bonuses-requires
 fill-bonuses-requires c κs = let s = start (earned c .before) in
@@ -65,7 +74,8 @@ value-rows-requires c κs = let at = matched c in
       sized at,
       (
         (omega (arith, most, long .values-long), omega (arith, most, long .next-long)),
-        plan-words (s .pre .0) (s .pre .1 .0) (s .args .ins) (s .args .outs) (s .pre .1 .1 .0 .0) (s .pre .1 .1 .0 .1 .0) (s .args .horizon) (s .pre .1 .1 .0 .1 .1),
+        plan-words (s .pre .0) (s .pre .1 .0) (s .args .ins) (s .args .outs) (s .pre .1 .1 .0 .0) (s .pre .1 .1 .0 .1 .0)
+            (s .args .horizon) (s .pre .1 .1 .0 .1 .1),
       ),
     )
 
@@ -79,12 +89,19 @@ fill-choices-requires c κs = let at = valued c in
       sized (made at),
       (
         plan-valued (s .pre .0) (s .pre .1 .0) (s .args .ins) (s .args .outs) (s .pre .1 .1 .0 .0) (s .pre .1 .1 .0 .1 .0)
-            (s .args .gains .now) (s .args .bonuses .now) (earned (made at .before) .fill-gains .ensures) (made at .fill-bonuses .ensures (s .args .s .now))
+            (s .args .gains .now) (s .args .bonuses .now) (earned (made at .before) .fill-gains .ensures)
+            (made at .fill-bonuses .ensures (s .args .s .now))
             (long .gains-long) (long .bonuses-long) (long .cells-long) (long .dropped-long) (s .args .horizon) (s .pre .1 .1 .0 .1 .1)
-            (s .args .values .now) (s .args .choices .now) (at .value-rows .ensures .0) (at .value-rows .ensures .1) (long .values-long) (long .choices-long),
+            (s .args .values .now) (s .args .choices .now) (at .value-rows .ensures .0) (at .value-rows .ensures .1) (long .values-long)
+            (long .choices-long),
         (
           outputs-low (s .pre .0),
-          omega (arith, long .choices-long, choices-room (s .pre .0) (s .pre .1 .0) (s .args .ins) (s .args .outs) (s .pre .1 .1 .0 .0) (s .pre .1 .1 .0 .1 .0)),
+          omega (
+            arith,
+            long .choices-long,
+            choices-room (s .pre .0) (s .pre .1 .0) (s .args .ins) (s .args .outs) (s .pre .1 .1 .0 .0)
+                (s .pre .1 .1 .0 .1 .0),
+          ),
         ),
       ),
     )
@@ -96,9 +113,11 @@ guard-states-requires c κs = let at = chose c in
     let long = s .pre .1 .1 .1 in
     let most = s .pre .1 .0 .solution .numbering .most in (
       plan-following (s .pre .0) (s .pre .1 .0) (s .args .ins) (s .args .outs) (s .pre .1 .1 .0 .0) (s .pre .1 .1 .0 .1 .0)
-          (s .args .gains .now) (s .args .bonuses .now) (earned (made was .before) .fill-gains .ensures) (made was .fill-bonuses .ensures (s .args .s .now))
+          (s .args .gains .now) (s .args .bonuses .now) (earned (made was .before) .fill-gains .ensures)
+          (made was .fill-bonuses .ensures (s .args .s .now))
           (long .gains-long) (long .bonuses-long) (long .cells-long) (long .dropped-long) (s .args .horizon) (s .pre .1 .1 .0 .1 .1)
-          (s .args .values .now) (s .args .choices .now) (was .value-rows .ensures .0) (was .value-rows .ensures .1) (long .values-long) (long .choices-long)
+          (s .args .values .now) (s .args .choices .now) (was .value-rows .ensures .0) (was .value-rows .ensures .1) (long .values-long)
+          (long .choices-long)
           (at .fill-choices .ensures),
       (omega (arith, most, long .order-long), omega (arith, most, long .numbers-long)),
     )
@@ -131,11 +150,14 @@ returns c = let at = chosen c in
     let long = s .pre .1 .1 .1 in
     let most = s .pre .1 .0 .solution .numbering .most in
     plan-made (s .pre .0) (s .pre .1 .0) (s .args .ins) (s .args .outs) (s .pre .1 .1 .0 .0) (s .pre .1 .1 .0 .1 .0)
-    (s .args .gains .now) (s .args .bonuses .now) (earned (made was .before) .fill-gains .ensures) (made was .fill-bonuses .ensures (s .args .s .now))
+    (s .args .gains .now) (s .args .bonuses .now) (earned (made was .before) .fill-gains .ensures)
+    (made was .fill-bonuses .ensures (s .args .s .now))
     (long .gains-long) (long .bonuses-long) (long .cells-long) (long .dropped-long) (s .args .horizon) (s .pre .1 .1 .0 .1 .1)
-    (s .args .values .now) (s .args .choices .now) (was .value-rows .ensures .0) (was .value-rows .ensures .1) (long .values-long) (long .choices-long)
+    (s .args .values .now) (s .args .choices .now) (was .value-rows .ensures .0) (was .value-rows .ensures .1) (long .values-long)
+    (long .choices-long)
     (at .fill-choices .ensures)
-    (omega (arith, most, long .order-long, done c .guard-states .kept .1 .1 .1 .1 .1 .0)) (omega (arith, most, long .numbers-long, done c .guard-states .kept .1 .1 .1 .1 .1 .1 .0)) (done c .guard-states .ensures)
+    (omega (arith, most, long .order-long, done c .guard-states .kept .1 .1 .1 .1 .1 .0))
+    (omega (arith, most, long .numbers-long, done c .guard-states .kept .1 .1 .1 .1 .1 .1 .0)) (done c .guard-states .ensures)
 
 pub plan-spec : {M : Type 1} → statement M
 plan-spec =

@@ -75,7 +75,8 @@ ready c = subst (Says (judged c)) (c .enum-told .given .1) (judged c .open-sheet
 long : (c : tie.After-enum-told) →
     let a = entry (judged c) .args in
     let after = judged c .open-sheet .last .1 .1 in
-    Room (after .0) (after .1 .0) (after .1 .1 .0) (a .gains .now) (a .bonuses .now) (a .values .now) (a .next .now) (a .choices .now) (a .order .now) (a .numbers .now)
+    Room (after .0) (after .1 .0) (after .1 .1 .0) (a .gains .now) (a .bonuses .now) (a .values .now) (a .next .now) (a .choices .now)
+    (a .order .now) (a .numbers .now)
 long c =
     let w = entry (judged c) .pre (ready c .long) in
     let kept = judged c .open-sheet .kept .1 .1 in
@@ -150,12 +151,19 @@ same-length-10 c = planned (c .before) .plan .kept .1 .1 .1 .1 .1 .1 .1 .1 .1 .1
 returns : tie.Need-returns
 returns c = let at = planned (c .before) in
     let r = ready (told (counted at)) in
-    r .answers guardTableOf statesOf (layout-short ownHorizon (r .fits) (playable (r .solution)) (own-horizon _ _) (at .plan .ensures) (entry (first at) .args .result .now) (c .before .table-length .ensures) (omega arith))
+    r .answers guardTableOf statesOf
+    (layout-short ownHorizon (r .fits) (playable (r .solution)) (own-horizon _ _) (at .plan .ensures)
+    (entry (first at) .args .result .now) (c .before .table-length .ensures) (omega arith))
 
 write-requires : tie.Need-write-requires
 write-requires c κs = let sized = room c .before in
-    let at = planned sized in
-    (at .plan .ensures .tabled, (counted at .before .pow2 .ensures, (inputs-low (ready (told (counted at)) .fits), omega (arith, sized .table-length .ensures, room c .if1 .left))))
+    let at = planned sized in (
+      at .plan .ensures .tabled,
+      (
+        counted at .before .pow2 .ensures,
+        (inputs-low (ready (told (counted at)) .fits), omega (arith, sized .table-length .ensures, room c .if1 .left)),
+      ),
+    )
 
 same-length-11 : tie.Need-same-length-11
 same-length-11 c = refused c .open-sheet .kept .1 .1 .0
@@ -167,7 +175,8 @@ same-length-13 : tie.Need-same-length-13
 same-length-13 c = refused c .open-sheet .kept .1 .1 .1 .1 .0
 
 returns-2 : tie.Need-returns-2
-returns-2 c = let at = refused c in subst (Says at) (c .before .verdict .given .1) (at .open-sheet .ensures .0) guardTableOf statesOf (entry at .args .result .now)
+returns-2 c = let at = refused c in subst (Says at) (c .before .verdict .given .1) (at .open-sheet .ensures .0) guardTableOf statesOf
+    (entry at .args .result .now)
 
 same-length-14 : tie.Need-same-length-14
 same-length-14 c = wrote c .write .kept .0
@@ -205,7 +214,10 @@ same-length-24 c = planned (fit c .before) .plan .kept .1 .1 .1 .1 .1 .1 .1 .1 .
 returns-3 : tie.Need-returns-3
 returns-3 c = let at = planned (fit c .before) in
     let r = ready (told (counted at)) in
-    r .answers guardTableOf statesOf (layout-written ownHorizon (r .fits) (playable (r .solution)) (own-horizon _ _) (at .plan .ensures) (entry (first at) .args .result .now) (fit c .before .table-length .ensures) (omega (arith, fit c .if1 .left)) (wrote c .write .ensures))
+    r .answers guardTableOf statesOf
+    (layout-written ownHorizon (r .fits) (playable (r .solution)) (own-horizon _ _) (at .plan .ensures)
+    (entry (first at) .args .result .now) (fit c .before .table-length .ensures) (omega (arith, fit c .if1 .left))
+    (wrote c .write .ensures))
 
 pub make-with-spec : {M : Type 1} → statement M
 make-with-spec =

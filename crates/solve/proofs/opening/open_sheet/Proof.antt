@@ -55,7 +55,8 @@ solution : (c : tie.After-known-told2) →
     let at = read (long (accepted (solved c))) in
     let found = c .before .states .given .0 in
     let after = solved c .solve .last .1 .1 in
-    Solution (decoded (start at .args .s .now) (at .read .result .sheet)) (found .0) (found .1 .0) (found .1 .1 .0) (after .0) (after .1 .0) (after .1 .1 .0)
+    Solution (decoded (start at .args .s .now) (at .read .result .sheet)) (found .0) (found .1 .0) (found .1 .1 .0) (after .0)
+    (after .1 .0) (after .1 .1 .0)
 solution c = subst (Says (solved c)) (c .before .states .given .1) (solved c .solve .ensures .0)
 
 read-requires : tie.Need-read-requires
@@ -106,7 +107,8 @@ returns-2 c =
     let at = accepted (solved (c .before .before)) in
     let reader = read (long at) in
     simp (c .refused4 .ensures)
-    (opens-lost (is-long (long at)) (reader .read .ensures) (at .enum-told .given .1) (solution (c .before .before)) (not-true _ (c .before .if2 .taken)))
+    (opens-lost (is-long (long at)) (reader .read .ensures) (at .enum-told .given .1) (solution (c .before .before))
+    (not-true _ (c .before .if2 .taken)))
 
 returns-3 : tie.Need-returns-3
 returns-3 c =
@@ -142,7 +144,8 @@ same-length-9 c = solved (c .before) .solve .kept .1 .1 .1 .1 .0
 returns-5 : tie.Need-returns-5
 returns-5 c =
     let at = accepted (solved (c .before)) in
-    opens-solved (is-long (long at)) (read (long at) .read .ensures) (at .enum-told .given .1) (fits at) (solution (c .before)) (not-false _ (c .if2 .left))
+    opens-solved (is-long (long at)) (read (long at) .read .ensures) (at .enum-told .given .1) (fits at) (solution (c .before))
+    (not-false _ (c .if2 .left))
 
 pub open-sheet-spec : {M : Type 1} → statement M
 open-sheet-spec =

@@ -155,7 +155,8 @@ returns-3 c = let wrote = c .before .before in
     let r = ready (sized at) in
     r .answers supervisorTable stateCount
     (layout-written (r .fits) (r .solution) (entry (opened (sized at)) .args .result .now) _ (at .before .before .pow2 .ensures) refl
-    (at .before .table-length .ensures) (omega arith) _ (wrote .before .pow22 .ensures) (headed (wrote .before) .put-head .ensures) (wrote .put-rows .ensures))
+    (at .before .table-length .ensures) (omega arith) _ (wrote .before .pow22 .ensures) (headed (wrote .before) .put-head .ensures)
+    (wrote .put-rows .ensures))
 
 pub make-with-spec : {M : Type 1} → statement M
 make-with-spec =

@@ -70,7 +70,8 @@ promise : (c : tie.After-make-with) →
 promise c =
     let start = entered (tested c) .before in
     guard-promise (work start) (λ k. omega (arith, entered (tested c) .shared-slice-known .given k))
-    (subst (λ (b : Bool). Answers guardTableOf statesOf b (start .args .sheet .now) (start .args .result .now) (c .make-with .result) (c .make-with .last .1 .1 .0))
+    (subst (λ (b : Bool). Answers guardTableOf statesOf b (start .args .sheet .now) (start .args .result .now) (c .make-with .result)
+    (c .make-with .last .1 .1 .0))
     (tested c .work-ok .ensures) (c .make-with .ensures))
 
 work-ok-requires : tie.Need-work-ok-requires
@@ -79,7 +80,8 @@ work-ok-requires c κs = tt
 make-with-requires : tie.Need-make-with-requires
 make-with-requires c κs = let at = asked c in
     let a = entered at .before .args in
-    λ e. work-room (a .tuples .now) (a .cells .now) (a .dropped .now) (a .gains .now) (a .bonuses .now) (a .values .now) (a .next .now) (a .choices .now) (a .order .now) (a .numbers .now) (sym (at .work-ok .ensures) ∙ e)
+    λ e. work-room (a .tuples .now) (a .cells .now) (a .dropped .now) (a .gains .now) (a .bonuses .now) (a .values .now) (a .next .now)
+    (a .choices .now) (a .order .now) (a .numbers .now) (sym (at .work-ok .ensures) ∙ e)
 
 clear8-requires : tie.Need-clear8-requires
 clear8-requires c κs = tt

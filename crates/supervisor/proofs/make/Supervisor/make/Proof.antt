@@ -42,11 +42,13 @@ lengths c = length (c .args .tuples .now) ∷ length (c .args .cells .now) ∷ l
 -- the whole promise
 promise : (c : tie.After-make-with) →
     let a = entered (tested c) .before .args in
-    MakesSupervisor (a .sheet .now) (a .result .now) (lengths (entered (tested c) .before)) (c .make-with .result) (c .make-with .last .1 .1 .0)
+    MakesSupervisor (a .sheet .now) (a .result .now) (lengths (entered (tested c) .before)) (c .make-with .result)
+    (c .make-with .last .1 .1 .0)
 promise c =
     let a = entered (tested c) .before .args in
     supervisor-promise (lengths (entered (tested c) .before)) (λ k. omega (arith, entered (tested c) .shared-slice-known .given k))
-    (subst (λ (b : Bool). Answers supervisorTable stateCount b (a .sheet .now) (a .result .now) (c .make-with .result) (c .make-with .last .1 .1 .0))
+    (subst (λ (b : Bool). Answers supervisorTable stateCount b (a .sheet .now) (a .result .now) (c .make-with .result)
+    (c .make-with .last .1 .1 .0))
     (tested c .work-ok .ensures) (c .make-with .ensures))
 
 work-ok-requires : tie.Need-work-ok-requires
