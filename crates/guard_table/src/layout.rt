@@ -1,4 +1,5 @@
 // Where the parts of a guard table stand.
+use records::limits::Limits;
 use records::numbers::pow2;
 ghost use mathlib.Core.Path.{_≡_};
 ghost use Prim.Native.Nat.{_≤_};
@@ -22,7 +23,7 @@ impl Layout {
 
     pub const HEAD_SIZE: u16 = 6;
 
-    pub const HEAD_LENGTH: usize = 10;
+    pub const HEAD_LENGTH: usize = Layout::HEADER + Layout::HEAD_SIZE as usize;
 
     // Where the head's fields stand.
     pub const MODE: usize = 4;
@@ -38,8 +39,9 @@ impl Layout {
     // An entry: output and next state.
     pub const ENTRY_WIDTH: usize = 2;
 
-    // No table is longer: 256 states with 16 inputs.
-    pub const MOST: usize = 9_226;
+    // No table is longer: all states, with all inputs.
+    pub const MOST: usize = Layout::HEAD_LENGTH
+        + Limits::STATES * (Layout::HEADER + Layout::ENTRY_WIDTH * Limits::INS);
 
     // The bytes of a row's body: an entry for each input.
     pub fn row_size(self) -> usize

@@ -11,9 +11,17 @@ ghost use lib.ListN.{length};
 ghost use Rattle.report.specs.Promises.Report.{textLength, listedLength};
 ghost use Rattle.listing.specs.Promises.Printed.{PrintsSheet, PrintsGuard};
 
-// A sheet is read up to one byte more than it may have.
+// The bytes of a sheet that is not too long, and one more, up to which it is read.
+pub struct Listing {}
+
+impl Listing {
+    pub const SHEET: usize = 16_384;
+
+    pub const READ: usize = Listing::SHEET + 1;
+}
+
 fn main() {
-    let mut sheet = [0u8; 16_385];
+    let mut sheet = [0u8; Listing::READ];
     let mut text = [0u8; Report::TEXT];
     let size = io::read_full(STDIN_FILENO, &mut sheet);
     let length = print(&sheet[..size], &mut text);
@@ -25,7 +33,7 @@ fn print(sheet: &[u8], text: &mut [u8]) -> usize
     requires { ⌜ textLength ≤ length (now text) ⌝ }
     ensures { λ r. ⌜ PrintsSheet (now (sheet .entry)) (now (text .entry)) r (now (text .exit)) ⌝ }
 {
-    if 16_384 < sheet.len() {
+    if Listing::SHEET < sheet.len() {
         return written(Report::too_long(text));
     }
     print_guard(sheet, text)

@@ -5,8 +5,9 @@ use guard_table::layout::Layout;
 use records::numbers::pow2;
 use records::numbers::u16_at;
 ghost use mathlib.Core.Path.{_≡_};
-ghost use Prim.Native.Nat.{_^_, _≤_, _<_};
+ghost use Prim.Native.Nat.{_*_, _^_, _≤_, _<_};
 ghost use lib.ListN.{length};
+ghost use Rattle.records.specs.Meaning.Limits.{maxStates};
 ghost use Rattle.records.specs.Meaning.Lists.{cat};
 ghost use Rattle.guard_table.specs.Meaning.GuardTable.{headLength, headInputs, headCount, nextEnd};
 ghost use Rattle.guard_table.specs.Model.Inside.{Sized};
@@ -61,7 +62,7 @@ pub fn row_length(table: &[u8], inputs: u8, count: usize, k: usize) -> usize
 // The lines of the states.
 pub fn rows_length(table: &[u8], inputs: u8, count: usize) -> usize
     requires { ⌜ Sized (now table) inputs count ⌝ }
-    ensures { λ r. ⌜ (r ≡ length (cat count (rowOf (now (table .entry)) inputs))) × (r ≤ 34_048) ⌝ }
+    ensures { λ r. ⌜ (r ≡ length (cat count (rowOf (now (table .entry)) inputs))) × (r ≤ 133 * maxStates) ⌝ }
 {
     let mut total: usize = 0;
     let mut k: usize = 0;

@@ -6,6 +6,7 @@ use listing_text::put_byte;
 use listing_text::put_labelled;
 use listing_text::put_listing;
 use listing_text::put_word;
+use records::limits::Limits;
 use solve::made::Made;
 ghost use mathlib.Core.Bool.{true};
 ghost use Rattle.guard_table.specs.Meaning.Loadable.{loadable};
@@ -23,8 +24,13 @@ pub enum Listed {
 pub struct Report {}
 
 impl Report {
+    // The longest first line of a listing, and the longest line of a state.
+    pub const HEAD_LINE: usize = 41;
+
+    pub const ROW_LINE: usize = 101;
+
     // No text is longer.
-    pub const TEXT: usize = 25_897;
+    pub const TEXT: usize = Report::HEAD_LINE + Report::ROW_LINE * Limits::STATES;
 
     // The listing of a table, at the start of the text memory.
     pub fn list(table: &[u8], text: &mut [u8]) -> Listed

@@ -2,14 +2,15 @@
 -- Assumes nothing.
 use mathlib.Core.Path.{_≡_}
 use mathlib.Core.List.{List}
-use Prim.Native.Nat.{ℕ, _+_, _^_, _≤_, _<_}
+use Prim.Native.Nat.{ℕ, _+_, _*_, _^_, _≤_, _<_}
 use lib.ListN.{length}
-use Rattle.records.specs.Meaning.Limits.{maxInputs, maxStates}
-use Rattle.guard_table.specs.Meaning.GuardTable.{entryWidth, rowLength, tableLength, rowAt, entryAt}
+use Rattle.records.specs.Meaning.Limits.{maxInputs, maxIns, maxStates}
+use Rattle.records.specs.Meaning.Records.{headerSize}
+use Rattle.guard_table.specs.Meaning.GuardTable.{entryWidth, headLength, rowLength, tableLength, rowAt, entryAt}
 
--- no table is longer: 256 states with 16 inputs
+-- no table is longer: all states, with all inputs
 abbrev pub tableMost : ℕ
-tableMost = 9_226
+tableMost = headLength + maxStates * (headerSize + entryWidth * maxIns)
 
 -- as long as a table with so many states, which are in bounds
 pub record Sized (t : List ℕ) (inputs count : ℕ) : Type 0 where

@@ -3,10 +3,11 @@
 use mathlib.Core.Path.{_≡_}
 use mathlib.Core.Bool.{Bool, true, cond, _&&_}
 use mathlib.Core.List.{List}
-use Prim.Native.Nat.{ℕ, _≤_}
+use Prim.Native.Nat.{ℕ, _+_, _*_, _≤_}
 use lib.Dec.{ltb, leb, eqb}
 use lib.ListN.{length, take}
 use lib.Seq.{sets}
+use Rattle.records.specs.Meaning.Limits.{maxStates}
 use Rattle.guard_table.specs.Meaning.Loadable.{loadable}
 use Rattle.sheet.specs.Meaning.Grounds.{groundNumber}
 use Rattle.solve.specs.declared.made.Made.{Made}
@@ -41,9 +42,9 @@ pub record Writes (due : Bool) (words before : List ℕ) (r : Listed) (after : L
   -- and the whole text is there
   pub inside : listedLength r ≤ length after
 
--- no text is longer
+-- no text is longer: a first line of at most 41 bytes, and a line of at most 101 for each state
 abbrev pub textLength : ℕ
-textLength = 25_897
+textLength = 41 + 101 * maxStates
 
 -- ---- what is told of a maker's answer, whose table, if it made one, is at the start of `result`
 
