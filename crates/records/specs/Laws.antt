@@ -3,6 +3,7 @@ pub mod Bits
 pub mod Bounded
 pub mod Cells
 pub mod Cursor
+pub mod Digits
 pub mod Limits
 pub mod Lists
 pub mod Numbers

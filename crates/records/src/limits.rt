@@ -15,8 +15,10 @@ impl Limits {
     // Input and output lines together.
     pub const LINES: u8 = 6;
 
-    // So many inputs and letters they make.
+    // So many inputs, outputs and letters they make.
     pub const INS: usize = 1 << Limits::INPUTS;
+
+    pub const OUTS: usize = 1 << Limits::OUTPUTS;
 
     pub const LETTERS: usize = 1 << Limits::LINES;
 
