@@ -9,8 +9,8 @@ ghost use mathlib.Core.Path.{_≡_};
 ghost use mathlib.Core.Bool.{true};
 ghost use Prim.Native.Nat.{_≤_};
 ghost use lib.ListN.{length};
-ghost use Rattle.records.specs.Meaning.Limits.{maxStates};
 ghost use Rattle.product.specs.Model.ProductNumbering.{tuplesLength, cellsLength};
+ghost use Rattle.states.specs.Model.Index.{linksLength};
 ghost use Rattle.solve.specs.Model.Opening.{Opens, OpenAnswer, refusedBy};
 
 // A verdict, and where it accepts, the sheet, the number of its product states, and how many of them are kept; else 0.
@@ -38,12 +38,12 @@ impl Opening {
 pub fn open_sheet(
     ok: bool,
     s: &[u8],
-    tuples: &mut [u8],
+    tuples: &mut [u64],
     cells: &mut [u16],
     dropped: &mut [u16],
 ) -> Opening
     requires { ⌜
-        (ok ≡ true → (tuplesLength ≤ length (now tuples)) × ((cellsLength ≤ length (now cells)) × (maxStates ≤ length (now dropped)))) ⌝ }
+        (ok ≡ true → (tuplesLength ≤ length (now tuples)) × ((cellsLength ≤ length (now cells)) × (linksLength ≤ length (now dropped)))) ⌝ }
     ensures memory { λ r. ⌜
         Opens ok (now (s .entry)) (r .verdict) (r .sheet) (r .states) (r .kept) (now (tuples .exit)) (now (cells .exit))
         (now (dropped .exit)) ⌝ }

@@ -16,7 +16,6 @@ ghost use mathlib.Core.Bool.{true};
 ghost use mathlib.Core.List.{[], _∷_};
 ghost use Prim.Native.Nat.{_≤_};
 ghost use lib.ListN.{length};
-ghost use Rattle.records.specs.Meaning.Limits.{maxStates};
 ghost use Rattle.records.specs.Meaning.Numbers.{zeros};
 ghost use Rattle.records.specs.Meaning.Work.{longEnough};
 ghost use Rattle.product.specs.Model.ProductNumbering.{stateCount, tuplesLength, cellsLength};
@@ -41,7 +40,7 @@ impl Supervisor {
     pub fn make(
         sheet: &[u8],
         result: &mut [u8],
-        tuples: &mut [u8],
+        tuples: &mut [u64],
         cells: &mut [u16],
         dropped: &mut [u16],
     ) -> Made
@@ -83,12 +82,12 @@ fn make_with(
     ok: bool,
     s: &[u8],
     result: &mut [u8],
-    tuples: &mut [u8],
+    tuples: &mut [u64],
     cells: &mut [u16],
     dropped: &mut [u16],
 ) -> Made
     requires { ⌜
-        (ok ≡ true → (tuplesLength ≤ length (now tuples)) × ((cellsLength ≤ length (now cells)) × (maxStates ≤ length (now dropped)))) ⌝ }
+        (ok ≡ true → (tuplesLength ≤ length (now tuples)) × ((cellsLength ≤ length (now cells)) × (linksLength ≤ length (now dropped)))) ⌝ }
     ensures { λ r. ⌜ Answers supervisorTable stateCount ok (now (s .entry)) (now (result .entry)) r (now (result .exit)) ⌝ }
 {
     let opening = open_sheet(ok, s, tuples, cells, dropped);
