@@ -1,13 +1,13 @@
 // The maker of supervisor tables.
-use product::tuple::Product;
-use records::clear::clear8;
 use records::clear::clear16;
+use records::clear::clear64;
 use records::limits::Limits;
 use records::numbers::pow2;
 use sheet::layout::Refusal;
 use sheet::layout::Verdict;
 use solve::made::Made;
 use solve::opening::open_sheet;
+use states::index::Index;
 use supervisor_table::put_head;
 use supervisor_table::put_rows;
 use supervisor_table::table_length;
@@ -19,6 +19,7 @@ ghost use lib.ListN.{length};
 ghost use Rattle.records.specs.Meaning.Numbers.{zeros};
 ghost use Rattle.records.specs.Meaning.Work.{longEnough};
 ghost use Rattle.product.specs.Model.ProductNumbering.{stateCount, tuplesLength, cellsLength};
+ghost use Rattle.states.specs.Model.Index.{linksLength};
 ghost use Rattle.solve.specs.Model.Making.{Answers};
 ghost use Rattle.supervisor.specs.Model.SupervisorOfSheet.{supervisorTable};
 ghost use Rattle.supervisor.specs.Promises.SupervisorMaker.{supervisorWork, MakesSupervisor};
@@ -27,14 +28,14 @@ ghost use Rattle.supervisor.specs.Promises.SupervisorMaker.{supervisorWo
 pub struct Supervisor {}
 
 impl Supervisor {
-    // The tuple of each product state.
-    pub const TUPLES: usize = Product::PLACES * Limits::STATES;
+    // The tuple of each product state, as one number.
+    pub const TUPLES: usize = Limits::STATES;
 
     // The table of steps: a cell for each product state and letter.
     pub const CELLS: usize = Limits::LETTERS * Limits::STATES;
 
-    // The round that dropped each product state.
-    pub const DROPPED: usize = Limits::STATES;
+    // The index of the tuples while they are numbered; then the round that dropped each product state.
+    pub const DROPPED: usize = Index::LINKS;
 
     // Makes the supervisor table of a sheet. The work memory may hold anything, and is zero afterwards.
     pub fn make(
@@ -53,7 +54,7 @@ impl Supervisor {
     {
         let ok = work_ok(tuples.len(), cells.len(), dropped.len());
         let made = make_with(ok, sheet, result, tuples, cells, dropped);
-        clear8(tuples);
+        clear64(tuples);
         clear16(cells);
         clear16(dropped);
         made

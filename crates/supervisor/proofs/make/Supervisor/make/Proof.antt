@@ -20,10 +20,10 @@ use Rattle.supervisor.proofs.make.Supervisor.make.Tie as tie
 abbrev cleared-cells : tie.After-clear162 → tie.After-clear16
 cleared-cells c = c .before .before .before .before
 
-abbrev cleared-tuples : tie.After-clear16 → tie.After-clear8
+abbrev cleared-tuples : tie.After-clear16 → tie.After-clear64
 cleared-tuples c = c .before .before .before .before
 
-abbrev made : tie.After-clear8 → tie.After-make-with
+abbrev made : tie.After-clear64 → tie.After-make-with
 made c = c .before .before .before .before .before .before .before .before .before .before
 
 abbrev asked : tie.After-make-with-arg4 → tie.After-work-ok
@@ -60,8 +60,8 @@ make-with-requires c κs = let at = asked c in
     λ e. let long = long-enough supervisorWork (lengths (entered at .before)) (sym (at .work-ok .ensures) ∙ e) in
     (long .0, (long .1 .0, long .1 .1 .0))
 
-clear8-requires : tie.Need-clear8-requires
-clear8-requires c κs = search needs
+clear64-requires : tie.Need-clear64-requires
+clear64-requires c κs = search needs
 
 clear16-requires : tie.Need-clear16-requires
 clear16-requires c κs = search needs
@@ -89,7 +89,7 @@ returns c =
     let done = made tuples in (
       promise done,
       (
-        tuples .clear8 .ensures ∙ ap zeros (done .make-with .kept .1 .1 .1 .0),
+        tuples .clear64 .ensures ∙ ap zeros (done .make-with .kept .1 .1 .1 .0),
         (
           cells .clear16 .ensures ∙ ap zeros (done .make-with .kept .1 .1 .1 .1 .0),
           dropped .clear162 .ensures ∙ ap zeros (done .make-with .kept .1 .1 .1 .1 .1 .0),
@@ -103,7 +103,7 @@ make-spec =
     (tie.spec
     work-ok-requires
     make-with-requires
-    clear8-requires
+    clear64-requires
     clear16-requires
     clear16-requires-2
     same-length
