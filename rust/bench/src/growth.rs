@@ -63,3 +63,13 @@ impl Growth {
         }
     }
 }
+
+#[cfg(test)]
+mod tests {
+    use super::*;
+
+    #[test]
+    fn all_three_answer_alike() {
+        Growth::all().iter().for_each(Growth::check);
+    }
+}

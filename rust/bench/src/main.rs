@@ -19,8 +19,8 @@ use crate::boards::Boards;
 use crate::growth::Growth;
 use crate::timing::Effort;
 
-const FULL: Effort = Effort { sample: Duration::from_micros(500), samples: 80, runs: 5 };
-const QUICK: Effort = Effort { sample: Duration::from_micros(300), samples: 20, runs: 1 };
+const FULL: Effort = Effort { sample: Duration::from_micros(500), samples: 140, runs: 5 };
+const QUICK: Effort = Effort { sample: Duration::from_micros(300), samples: 100, runs: 1 };
 
 fn main() {
     let quick = std::env::args().nth(1).is_some_and(|argument| argument == "quick");
@@ -39,6 +39,10 @@ fn main() {
         boards.run(effort);
         growths.iter_mut().for_each(|growth| growth.run(effort));
     }
+    println!(
+        "rattle: the proved library; plain: the reference; tuned: safe Rust written for speed"
+    );
+    println!("r/plain, r/tuned: rattle's time over the other's; medians of {} runs\n", effort.runs);
     groups.iter().for_each(|group| group.print());
     println!("{:<width$} {}", "board", timing::COLUMNS, width = rows::WIDTH);
     boards.print(rows::WIDTH);

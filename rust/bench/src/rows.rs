@@ -113,12 +113,12 @@ fn named((name, sheet): (&str, Vec<u8>)) -> (String, Vec<u8>) {
 fn few_letters() -> Group {
     let notebook = sheets::from_text(include_str!("../../../sheets/counters-32-8.hex"));
     let rows = [
-        ("lines 0, 1; H = 6", sheets::counters_of((0, 1), 6, 256)),
-        ("lines 0, 2; H = 6", sheets::counters_of((0, 2), 6, 256)),
+        ("0 in, 1 out, H 6", sheets::counters_of((0, 1), 6, 256)),
+        ("0 in, 2 out, H 6", sheets::counters_of((0, 2), 6, 256)),
         ("notebook's counters", notebook),
-        ("lines 0, 3; H = 6", sheets::counters_of((0, 3), 6, 256)),
-        ("lines 1, 2; H = 6", sheets::counters_of((1, 2), 6, 256)),
-        ("lines 1, 2; H = 6; small", sheets::counters_of((1, 2), 6, 16)),
+        ("0 in, 3 out, H 6", sheets::counters_of((0, 3), 6, 256)),
+        ("1 in, 2 out, H 6", sheets::counters_of((1, 2), 6, 256)),
+        ("1 in, 2 out, H 6, small", sheets::counters_of((1, 2), 6, 16)),
     ];
     Group::new("few letters", rows.map(named).into())
 }
@@ -151,23 +151,48 @@ fn shields() -> Group {
     for states in SIZES {
         for (site_lines, outputs) in LINES {
             let sheet = sheets::shield_of(site_lines, outputs, 6, states);
-            rows.push((format!("m = {site_lines}, out {outputs}"), sheet));
+            rows.push((format!("m {site_lines}, {outputs} out"), sheet));
         }
     }
     for (site_lines, outputs, counter) in [(0, 2, 5), (1, 2, 5), (0, 3, 4)] {
         let sheet = sheets::shield_with(site_lines, outputs, 6, 2, 1, counter);
-        rows.push((format!("m = {site_lines}, out {outputs}, 2 copies"), sheet));
+        rows.push((format!("m {site_lines}, {outputs} out, 2 copies"), sheet));
     }
-    Group::new("shields, H = 6", rows)
+    Group::new("shields, H 6", rows)
 }
 
 fn long_horizons() -> Group {
     let rows = [
-        ("lines 0, 3; H = 24", sheets::counters_of((0, 3), 24, 256)),
-        ("lines 1, 3; H = 24", sheets::counters_of((1, 3), 24, 256)),
-        ("lines 2, 3; H = 12", sheets::counters_of((2, 3), 12, 256)),
-        ("shield 0, 1; H = 24", sheets::shield_of(0, 1, 24, 240)),
-        ("shield 0, 2; H = 12", sheets::shield_of(0, 2, 12, 240)),
+        ("0 in, 3 out, H 24", sheets::counters_of((0, 3), 24, 256)),
+        ("1 in, 3 out, H 24", sheets::counters_of((1, 3), 24, 256)),
+        ("2 in, 3 out, H 12", sheets::counters_of((2, 3), 12, 256)),
+        ("shield m 0, 1 out, H 24", sheets::shield_of(0, 1, 24, 240)),
+        ("shield m 0, 2 out, H 12", sheets::shield_of(0, 2, 12, 240)),
     ];
     Group::new("long horizons", rows.map(named).into())
+}
+
+#[cfg(test)]
+mod tests {
+    use super::*;
+
+    #[test]
+    fn all_three_answer_alike() {
+        all().iter().for_each(Group::check);
+    }
+
+    #[test]
+    fn sheets_come_to_what_they_are_named_for() {
+        let refused = |group: &Group| {
+            group
+                .rows
+                .iter()
+                .flat_map(|row| &row.sheets)
+                .all(|sheet| reference::guard_table(sheet) == Err(Refusal::TooManyStates))
+        };
+        for group in all() {
+            assert_eq!(refused(&group), group.name == "refused 7", "{}", group.name);
+        }
+        assert_eq!(super::refused().rows.last().map(|row| row.sheets.len()), Some(20));
+    }
 }

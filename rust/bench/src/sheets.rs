@@ -215,3 +215,41 @@ pub fn one_hash(hidden: usize) -> Vec<u8> {
     }
     sheet.bytes
 }
+
+#[cfg(test)]
+mod tests {
+    use super::*;
+    use reference::{Product, Sheet};
+
+    fn product(sheet: &[u8]) -> Product {
+        Product::explore(&Sheet::parse(sheet).unwrap()).unwrap()
+    }
+
+    #[test]
+    fn one_hash_is_one_bucket() {
+        for hidden in [8, 16] {
+            let product = product(&one_hash(hidden));
+            assert_eq!(product.count(), hidden * hidden);
+            for state in 0..product.count() {
+                let places = product.tuple(state).iter().rev();
+                let packed = places.fold(0, |packed, &state| packed << 5 | usize::from(state));
+                assert_eq!(packed % LIBRARY_BUCKETS, 0);
+            }
+        }
+    }
+
+    #[test]
+    fn sizes_are_as_asked_for() {
+        for states in [8, 16, 32, 64, 128, 256] {
+            for lines in [(0, 1), (0, 3), (1, 2), (4, 2)] {
+                assert_eq!(product(&counters_of(lines, 0, states)).count(), states);
+            }
+        }
+        for states in [8usize, 30, 60, 120, 240] {
+            for (site_lines, outputs) in [(0, 1), (2, 1), (0, 2), (2, 2), (0, 3)] {
+                let found = product(&shield_of(site_lines, outputs, 0, states)).count();
+                assert!(found.abs_diff(states) <= 5, "{found} for {states}");
+            }
+        }
+    }
+}

@@ -12,7 +12,6 @@ mod steps;
 
 use reference::{Made, Refusal, Sheet};
 
-use crate::plan::Guard;
 use crate::product::{Product, CELLS};
 
 /// A sheet's product and which of its states are kept; refused 1 to 8.
@@ -63,11 +62,11 @@ pub fn make_supervisor(sheet: &[u8], result: &mut [u8]) -> Result<Made, Refusal>
 /// Makes the guard table of a sheet at the start of the result memory, as the reference does.
 pub fn make_guard(sheet: &[u8], result: &mut [u8]) -> Result<Made, Refusal> {
     let (sheet, product, kept) = solve(sheet)?;
-    let guard = Guard::plan(&sheet, &product, &kept);
+    let entries = plan::plan(&sheet, &product, &kept);
     let ins = sheet.input_count();
     let head = [6, 0, 16, 0, sheet.mode as u8, sheet.inputs, sheet.outputs, sheet.horizon];
-    let (made, rows) = open(result, &head, 4 + 2 * ins, guard.states)?;
-    for (row, entries) in rows.zip(guard.entries.chunks_exact(ins)) {
+    let (made, rows) = open(result, &head, 4 + 2 * ins, entries.len() / ins)?;
+    for (row, entries) in rows.zip(entries.chunks_exact(ins)) {
         row[..4].copy_from_slice(&[2 * ins as u8, 0, 17, 0]);
         row[4..].copy_from_slice(entries.as_flattened());
     }
