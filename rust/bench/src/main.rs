@@ -42,7 +42,8 @@ fn main() {
     println!(
         "rattle: the proved library; plain: the reference; tuned: safe Rust written for speed"
     );
-    println!("r/plain, r/tuned: rattle's time over the other's; medians of {} runs\n", effort.runs);
+    let of = if effort.runs == 1 { "of one run" } else { "medians of five runs" };
+    println!("r/plain, r/tuned: rattle's time over the other's; {of}\n");
     groups.iter().for_each(|group| group.print());
     println!("{:<width$} {}", "board", timing::COLUMNS, width = rows::WIDTH);
     boards.print(rows::WIDTH);
