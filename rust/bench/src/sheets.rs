@@ -1,4 +1,6 @@
 //! The sheets that are timed.
+//!
+//! Where a counter isn't the point of a sheet it makes the sheet as large as it shall be.
 
 use conformance::generate::record;
 
@@ -42,7 +44,13 @@ impl Builder {
 
     /// A soft monitor that a line moves on, wrapping round, and that likes its start.
     fn counter(self, states: u8, line: u8) -> Builder {
-        let next = move |state, letter: u8| (state + (letter >> line & 1)) % states;
+        self.counter_at(states, line, 1)
+    }
+
+    /// Such a monitor that is moved on where the line is on (1) or off (0).
+    fn counter_at(self, states: u8, line: u8, level: u8) -> Builder {
+        let next =
+            move |state, letter: u8| (state + u8::from(letter >> line & 1 == level)) % states;
         self.monitor(SOFT, 1 + line, states, |state| state == 0, next)
     }
 
@@ -69,9 +77,32 @@ pub fn middle() -> Vec<u8> {
     Builder::new(0, 2, 2, 4).never_twice(0).counter(5, 3).counter(6, 0).bytes
 }
 
-/// Two counters moved by the two output lines, four lines in: as many states as their product.
-pub fn counters(first: u8, second: u8) -> Vec<u8> {
-    Builder::new(0, 4, 2, 6).counter(first, 4).counter(second, 5).bytes
+/// Two counters with as many states as their product: moved by the first two output lines, or by
+/// the one that there is, on or off.
+pub fn counters((lines_in, outputs): (u8, u8), horizon: u8, (first, second): (u8, u8)) -> Vec<u8> {
+    let sheet = Builder::new(0, lines_in, outputs, horizon).counter(first, lines_in);
+    match outputs {
+        1 => sheet.counter_at(second, lines_in, 0).bytes,
+        _ => sheet.counter(second, lines_in + 1).bytes,
+    }
+}
+
+/// Such counters of so many states together: a power of two from 8 to 1024.
+pub fn counters_of(lines: (u8, u8), horizon: u8, states: usize) -> Vec<u8> {
+    let second = (states / 32).max(8);
+    counters(lines, horizon, ((states / second) as u8, second as u8))
+}
+
+/// Six counters, each moved by a line of its own: 64 new states from the first one alone.
+pub fn six_counters() -> Vec<u8> {
+    (0..6).fold(Builder::new(0, 4, 2, 6), |sheet, line| sheet.counter(32, line)).bytes
+}
+
+/// The bytes of a file of `sheets/`: hexadecimal text, with comments from # on.
+pub fn from_text(text: &str) -> Vec<u8> {
+    let words =
+        text.lines().flat_map(|line| line.split('#').next().unwrap_or("").split_whitespace());
+    words.map(|word| u8::from_str_radix(word, 16).expect("hexadecimal")).collect()
 }
 
 /// 256 product states of six monitors, four lines in and two out.
@@ -80,11 +111,35 @@ pub fn six_monitors() -> Vec<u8> {
     sheet.never_twice(0).never_twice(1).bytes
 }
 
-/// A shield with copies and a deviation limit: two site lines, two outputs.
-pub fn shield() -> Vec<u8> {
-    let sheet = Builder::new(1, 2, 2, 6).never_twice(0).never_twice(1);
-    let in_a_row = |state: u8, letter: u8| if letter & 2 != 0 { (state + 1).min(3) } else { 0 };
-    sheet.monitor(LIMIT, 0, 4, |state| state < 3, in_a_row).counter(3, 0).bytes
+/// The product states of a shield with one hard monitor, by the counter's states: as many times so
+/// many as this.
+const SHIELD_STATES: [usize; 4] = [0, 8, 10, 10];
+
+/// A shield of about so many product states: one hard monitor with its copy, and a limit.
+pub fn shield_of(site_lines: u8, outputs: u8, horizon: u8, states: usize) -> Vec<u8> {
+    let each = SHIELD_STATES[usize::from(outputs)];
+    let counter = ((states + each / 2) / each).max(1);
+    shield_with(site_lines, outputs, horizon, 1, 1, counter as u8)
+}
+
+/// A shield: hard monitors of so many outputs, each with its copy; a limit of so many deviations
+/// in a row; a counter moved by line 0.
+pub fn shield_with(
+    site_lines: u8,
+    outputs: u8,
+    horizon: u8,
+    copies: u8,
+    in_a_row: u8,
+    counter: u8,
+) -> Vec<u8> {
+    let head = Builder::new(1, site_lines, outputs, horizon);
+    let sheet = (0..copies).fold(head, Builder::never_twice);
+    let next = |state: u8, letter: u8| match letter & 2 {
+        2 => (state + 1).min(in_a_row + 1),
+        _ => 0,
+    };
+    let sheet = sheet.monitor(LIMIT, 0, in_a_row + 2, |state| state <= in_a_row, next);
+    sheet.counter(counter, 0).bytes
 }
 
 /// Some 240 rounds. Output 0 on spends one of the first monitor's states and refills the second;
@@ -104,4 +159,97 @@ pub fn chain() -> Vec<u8> {
     };
     let sheet = Builder::new(0, 4, 2, 6).monitor(HARD, 0, 32, |state| state != SPENT, budget);
     sheet.monitor(HARD, 0, 9, |state| state != 8, refilled).bytes
+}
+
+/// The library's number of buckets: a tuple lies in that of its packed number (the sum over places
+/// j of state x 32^j) modulo this.
+const LIBRARY_BUCKETS: usize = 521;
+/// The monitors of a group that moves in lock step.
+const GROUP: usize = 3;
+
+/// Triples of monitor states, so many of them, that differ from each other in every place and add
+/// nothing to a bucket wherever the three places lie together (the modulus is prime).
+fn labels(count: usize) -> Vec<[u8; GROUP]> {
+    let all = (0..1usize << (5 * GROUP)).filter(|packed| packed % LIBRARY_BUCKETS == 0);
+    let triples: Vec<[u8; GROUP]> =
+        all.map(|packed| [0, 1, 2].map(|place| (packed >> (5 * place)) as u8 % 32)).collect();
+    let mut chosen = Vec::new();
+    assert!(choose(&triples, count, &mut chosen), "no {count} labels for one bucket");
+    chosen
+}
+
+/// Chooses so many triples more, the first that can be.
+fn choose(triples: &[[u8; GROUP]], count: usize, chosen: &mut Vec<[u8; GROUP]>) -> bool {
+    if chosen.len() == count {
+        return true;
+    }
+    (0..triples.len()).any(|first| {
+        let fits = chosen.iter().all(|c| c.iter().zip(&triples[first]).all(|(a, b)| a != b));
+        if fits {
+            chosen.push(triples[first]);
+            if choose(&triples[first + 1..], count, chosen) {
+                return true;
+            }
+            chosen.pop();
+        }
+        false
+    })
+}
+
+/// 64 letters, and product states that all lie in one bucket of the library's: two groups of three
+/// monitors, each group in lock step through so many hidden states, moved by an output line.
+pub fn one_hash(hidden: usize) -> Vec<u8> {
+    let labels = labels(hidden);
+    let mut sheet = Builder::new(0, 4, 2, 6);
+    for line in [4, 5] {
+        for place in 0..GROUP {
+            let at = |state: u8| labels.iter().position(|label| label[place] == state);
+            let next = |state: u8, letter: u8| match at(state) {
+                Some(hidden) if letter >> line & 1 == 1 => {
+                    labels[(hidden + 1) % labels.len()][place]
+                }
+                _ => state,
+            };
+            sheet = sheet.monitor(SOFT, 1 + place as u8, 32, |state| state == 0, next);
+        }
+    }
+    sheet.bytes
+}
+
+#[cfg(test)]
+mod tests {
+    use super::*;
+    use reference::{Product, Sheet};
+
+    fn product(sheet: &[u8]) -> Product {
+        Product::explore(&Sheet::parse(sheet).unwrap()).unwrap()
+    }
+
+    #[test]
+    fn one_hash_is_one_bucket() {
+        for hidden in [8, 16] {
+            let product = product(&one_hash(hidden));
+            assert_eq!(product.count(), hidden * hidden);
+            for state in 0..product.count() {
+                let places = product.tuple(state).iter().rev();
+                let packed = places.fold(0, |packed, &state| packed << 5 | usize::from(state));
+                assert_eq!(packed % LIBRARY_BUCKETS, 0);
+            }
+        }
+    }
+
+    #[test]
+    fn sizes_are_as_asked_for() {
+        for states in [8, 16, 32, 64, 128, 256] {
+            for lines in [(0, 1), (0, 3), (1, 2), (4, 2)] {
+                assert_eq!(product(&counters_of(lines, 0, states)).count(), states);
+            }
+        }
+        for states in [8usize, 30, 60, 120, 240] {
+            for (site_lines, outputs) in [(0, 1), (2, 1), (0, 2), (2, 2), (0, 3)] {
+                let found = product(&shield_of(site_lines, outputs, 0, states)).count();
+                assert!(found.abs_diff(states) <= 5, "{found} for {states}");
+            }
+        }
+    }
 }
