@@ -63,14 +63,14 @@ module _
     steps-few = (omega (arith, r .within, fits .steps), words-mono g (fits .sized) (r .within) (fits .few))
 
     -- what `prepare` asks
-    pub gained : Gained n (g .gains)
-    gained = record { room = fits .gains; most = fits .sized .gain }
-
-    pub valued : Valued n values factor
-    valued = rw (r .row, r .words) (row-valued g n memory (fits .rows) (fits .sized) p (steps-few .0) (steps-few .1))
-
-    pub spare-room : n ≤ length arrivals
-    spare-room = omega (arith, r .room, fits .spares)
+    pub preparable : Gained n (g .gains) × (Valued n values factor × (n ≤ length arrivals))
+    preparable = (
+      record { room = fits .gains; most = fits .sized .gain },
+      (
+        rw (r .row, r .words) (row-valued g n memory (fits .rows) (fits .sized) p (steps-few .0) (steps-few .1)),
+        omega (arith, r .room, fits .spares),
+      ),
+    )
 
     -- a factor more is one of the numbers of words up to the horizon
     pub words-more : p < horizon → factor * g .ins ≡ g .ins ^ (p + 1)
@@ -82,7 +82,7 @@ module _
     -- with arrivals prepared
     module _ {arrivals' : List ℕ} (e : arrivals' ≡ put arrivals n (arrival (g .gains) values factor)) where
       new : Prepared n (g .gains) values factor arrivals'
-      new = prepared arrivals e spare-room
+      new = prepared arrivals e (preparable .1 .1)
 
       pub new-valued : Valued n arrivals' factor
       new-valued = arrivals-valued (fits .sized) new memory p (fits .rows) (r .row) (r .words) (steps-few .0) (steps-few .1)

@@ -176,7 +176,17 @@ pub fn value_rows(
     let mut p: u8 = 0;
     while p < horizon {
         prepare(gains, values, arrivals, n, factor);
-        value_round(cells, dropped, bonuses, ins, outs, n, arrivals, values, factor);
+        value_round(
+            cells,
+            dropped,
+            bonuses,
+            ins,
+            outs,
+            n,
+            arrivals,
+            values,
+            factor,
+        );
         factor *= ins as u64;
         p += 1;
     }

@@ -1,26 +1,24 @@
 -- Laws of prepared values and ranks: scores, values and choices by them are those by gains, values and the output order.
 -- Assumes nothing.
 use mathlib.Core.Path.{_≡_, refl, sym, ap, _∙_}
-use mathlib.Core.Bool.{Bool, true, false, cond}
-use mathlib.Core.List.{List, []}
+use mathlib.Core.Bool.{Bool, true, cond}
+use mathlib.Core.List.{List}
 use mathlib.Core.Option.{Option, none, some, Option·getD}
-use Prim.Native.Nat.{ℕ, zero, suc, _+_, _-_, _*_, _/_, _%_, _^_, _≤_, _<_}
+use Prim.Native.Nat.{ℕ, zero, suc, _+_, _-_, _*_, _^_, _≤_, _<_}
 use native.Mathlib.Nat.{add-mul, mul-le-mul, mod-lt, div-lt-iff-lt-mul}
 use native.Mathlib.Omega.{arith}
-use lib.ListN.{length, getD, replicate, length-replicate}
+use lib.ListN.{length, getD}
 use Rattle.records.specs.Meaning.Limits.{maxOuts, maxHorizon}
 use Rattle.records.specs.Meaning.Lists.{tab}
-use Rattle.records.specs.Meaning.Bounded.{sum}
-use Rattle.records.specs.Model.Bounded.{top}
 use Rattle.records.specs.Model.Lists.{put}
 use Rattle.records.specs.Laws.Bounded.{sum-cong, top-cong}
 use Rattle.records.specs.Laws.Lists.{tab-ext, getD-tab, put-tab, length-put, getD-put-front}
 use Rattle.rounds.specs.Model.TableRounds.{isIn}
-use Rattle.game.specs.Model.Choice.{Leads, before, against, leader, choose}
+use Rattle.game.specs.Model.Choice.{before, against, leader, choose}
 use Rattle.game.specs.Laws.Choice.{choose-cong}
 use Rattle.values.specs.Model.Rank.{rank, rankBy}
 use Rattle.values.specs.Model.Values.{Game, SizedGame, mayGive, cellNext, earns, scoreOf, worth, valueRow, choiceOf, choices}
-use Rattle.values.specs.Model.Sizes.{gameOf, Valued, Ready}
+use Rattle.values.specs.Model.Sizes.{Valued, Ready}
 use Rattle.values.specs.Model.Arrivals.{arrival, Prepared, arrivalGame, rankedChoice, rankedChoices}
 use Rattle.values.specs.Model.Leaders.{literalsOf}
 use Rattle.values.specs.Laws.Ranks.{rank-front}
@@ -30,7 +28,7 @@ use Rattle.values.specs.Laws.Choices.{leader-low}
 
 -- ---- ranks
 
--- prepared ranks are those of the sheet's literals
+-- the rank by a sheet's literals, which are the first so many of the array
 pub rank-literals : (literals : List ℕ) (count o : ℕ) → rank (literalsOf literals count) o ≡ rankBy literals count o
 unfolding literalsOf
 rank-literals literals count o = rank-front literals count o
@@ -67,7 +65,6 @@ prepared {n} before e room =
     record { room = rw (e, length-put) room; at = λ k h. rw e (getD-put-front before n _ k 0 h (omega arith)) }
 
 -- the table whose states gain nothing
-
 abbrev pub bare : Game → Game
 bare g = arrivalGame (g .cells) (g .dropped) (g .bonuses) (g .ins) (g .outs)
 
@@ -96,7 +93,9 @@ module _ {g : Game} {n : ℕ} (s : SizedGame g n) where
         → scoreOf (bare g) arrivals factor k i o ≡ scoreOf g values factor k i o
     unfolding scoreOf earns cellNext arrival
     arrival-score {k} {i} {o} hk hi ho may =
-        rw (a .at (cellNext g k i o) (next-low s hk hi ho may)) (omega (arith, add-mul (getD (g .gains) (cellNext g k i o) 0) (getD (g .bonuses) (i + g .ins * o) 0) factor))
+        let to : ℕ = cellNext g k i o in
+        rw (a .at to (next-low s hk hi ho may))
+        (omega (arith, add-mul (getD (g .gains) to 0) (getD (g .bonuses) (i + g .ins * o) 0) factor))
 
     -- values one step earlier are the same
     pub arrival-worth : (k : ℕ) → k < n → worth (bare g) arrivals factor k ≡ worth g values factor k

@@ -1,7 +1,7 @@
 -- What the code relies on: the table from its slices, a step's place in it, and values and factors that fit 64 bits.
 -- Assumes nothing.
 use mathlib.Core.List.{List}
-use Prim.Native.Nat.{ℕ, _+_, _*_, _^_, _≤_, _<_}
+use Prim.Native.Nat.{ℕ, _^_, _≤_, _<_}
 use lib.ListN.{length, getD}
 use Rattle.records.specs.Meaning.Limits.{maxHorizon}
 use Rattle.records.specs.Model.Bounded.{top}

@@ -103,8 +103,8 @@ loop-again c = let at = c .before .before in
     let g = game s in (
       omega arith,
       ⊎-elim
-          (λ w. lead-more g (s .args .t6) _ _ _ _ _ refl (at .cell-at .ensures) (said (c .before .leads-to-kept .ensures) (w .0 .taken)) refl
-          (w .2 .ensures) refl (head at .loop .inv .1) (w .4 ∙ w .3 .ensures))
+          (λ w. lead-more g (s .args .t6) _ _ _ _ _ refl (at .cell-at .ensures) (said (c .before .leads-to-kept .ensures) (w .0 .taken))
+          refl (w .2 .ensures) refl (head at .loop .inv .1) (w .4 ∙ w .3 .ensures))
           (λ w. lead-same g (s .args .t6) _ _ _ _ _ (at .cell-at .ensures) (said (c .before .leads-to-kept .ensures) (w .0 .left))
           (head at .loop .inv .1) (w .1))
           (c .if1 .came),
