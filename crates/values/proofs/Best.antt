@@ -14,7 +14,7 @@ use Rattle.rounds.specs.Laws.CellPlaces.{maxIndex, InRow, CellLeads, in-row, le
 use Rattle.values.specs.Model.Values.{Game, mayGive, cellNext, scoreOf, worth}
 use Rattle.values.specs.Model.Sizes.{Ready, bestOf}
 use Rattle.values.specs.Model.Arrivals.{scoreIn, Scored}
-use Rattle.values.specs.Laws.Sizes.{steps-of, entered, cell-letter-low, scored-at, score-read}
+use Rattle.values.specs.Laws.Sizes.{steps-of, entered, cell-letter-low, next-low, scored-at, score-read}
 use Rattle.values.specs.Laws.Growth.{best-most}
 
 -- what reading the cell of output o, and the bonus of its letter, asks
@@ -37,11 +37,14 @@ module _ {g : Game} {arrivals : List ℕ} {factor k : ℕ} (ready : Ready g arri
         letter = omega (arith, cell-letter-low hi ho, s .bonuses);
       }
 
-  -- the score of an output that may be given can be worked out
-  pub scorable : {o a to : ℕ} → o < g .outs → a ≡ at o → leadsIn (g .cells) (g .dropped) a ≡ true → to ≡ getD (g .cells) a 0
-      → Scored (g .bonuses) arrivals factor to (i + g .ins * o)
+  -- an output that may be given leads to one of the states
+  pub leads-inside : {o a : ℕ} → o < g .outs → a ≡ at o → leadsIn (g .cells) (g .dropped) a ≡ true → getD (g .cells) a 0 < ready .states
   unfolding mayGive cellNext
-  scorable ho q may e = rw (e, q) (scored-at (ready .sized) (ready .valued) (ready .state) hi ho (rw q at may))
+  leads-inside ho q may = rw q (next-low (ready .sized) (ready .state) hi ho (rw q at may))
+
+  -- so that its score can be worked out
+  pub scorable : {o to : ℕ} → o < g .outs → to < ready .states → Scored (g .bonuses) arrivals factor to (i + g .ins * o)
+  scorable ho h = scored-at (ready .sized) (ready .valued) h hi ho
 
 -- the best score of the outputs before o
 abbrev pub bestBefore : Game → List ℕ → ℕ → ℕ → ℕ → ℕ → ℕ

@@ -49,18 +49,16 @@ module _ {g : Game} {n : ℕ} (s : SizedGame g n) where
   unfolding mayGive cellNext
   next-kept k i o may = leads-kept (g .cells) (g .dropped) _ may
 
-  -- and its score can be worked out
-  pub scored-at : {arrivals : List ℕ} {factor k i o : ℕ} → Valued n arrivals factor → k < n → i < g .ins → o < g .outs
-      → mayGive g k i o ≡ true
-      → Scored (g .bonuses) arrivals factor (cellNext g k i o) (i + g .ins * o)
-  scored-at {arrivals} {factor} {k} {i} {o} v hk hi ho may =
-      let to : cellNext g k i o < n = next-low hk hi ho may in
+  -- and the score of a step to one of them can be worked out
+  pub scored-at : {arrivals : List ℕ} {factor to i o : ℕ} → Valued n arrivals factor → to < n → i < g .ins → o < g .outs
+      → Scored (g .bonuses) arrivals factor to (i + g .ins * o)
+  scored-at {i = i} {o = o} v h hi ho =
       let letter : i + g .ins * o < g .ins * g .outs = cell-letter-low hi ho in
       record {
         bonuses-room = omega (arith, s .bonuses);
         bonus = s .bonus _ letter;
         arrivals-room = omega (arith, v .room);
-        most = v .most _ to;
+        most = v .most _ h;
         factor-most = v .factor-most;
       }
 

@@ -9,7 +9,7 @@ use Rattle.records.specs.Laws.Tests.{said}
 use Rattle.rounds.specs.Laws.CellPlaces.{CellLeads}
 use Rattle.values.specs.Model.Values.{Game}
 use Rattle.values.specs.Model.Arrivals.{arrivalGame}
-use Rattle.values.proofs.Best.{Asked, asked, bestBefore, scorable, best-more, best-same}
+use Rattle.values.proofs.Best.{Asked, asked, bestBefore, leads-inside, scorable, best-more, best-same}
 use Rattle.values.proofs.values.best_score.Statement.{statement}
 use Rattle.values.proofs.values.best_score.Tie as tie
 
@@ -68,8 +68,9 @@ add-score-of c = omega (arith, reads (placed (c .before) .before) .letter)
 score-of-requires : tie.Need-score-of-requires Inv-loop μ-loop
 score-of-requires c κs = let at = placed (c .before) in
     let p = entry (head at) .pre in
-    scorable (p .0) _ (p .1) (at .before .loop-test .taken) (at .cell-at .ensures)
-    (said (c .before .before .leads-to-kept .ensures) (c .before .if1 .taken)) refl
+    let o = at .before .loop-test .taken in
+    let may = said (c .before .before .leads-to-kept .ensures) (c .before .if1 .taken) in
+    scorable (p .0) _ (p .1) o (omega (arith, leads-inside (p .0) _ (p .1) o (at .cell-at .ensures) may))
 
 larger-requires : tie.Need-larger-requires Inv-loop μ-loop
 larger-requires c κs = search needs
