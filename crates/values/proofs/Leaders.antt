@@ -1,18 +1,11 @@
 -- Laws of the leading output.
 -- Assumes nothing.
 use mathlib.Core.Path.{_≡_, refl}
-use mathlib.Core.List.{List}
 use mathlib.Core.Option.{Option, none, some, Option·getD}
 use Prim.Native.Nat.{ℕ}
 use Rattle.records.specs.Laws.Tests.{by-test}
 use Rattle.game.specs.Model.Choice.{before, against}
-use Rattle.values.specs.Model.Rank.{rank, rankBy}
-use Rattle.values.specs.Laws.Ranks.{rank-front}
-use Rattle.values.specs.Model.Leaders.{literalsOf, goesBefore, challenged, leaderOf}
-
-pub rank-literals : (literals : List ℕ) (count o : ℕ) → rank (literalsOf literals count) o ≡ rankBy literals count o
-unfolding literalsOf
-rank-literals literals count o = rank-front literals count o
+use Rattle.values.specs.Model.Leaders.{goesBefore, challenged, leaderOf}
 
 module _ (score rank : ℕ → ℕ) where
   pub leader-output : (m : Option ℕ) → leaderOf score rank m .output ≡ Option·getD m 0

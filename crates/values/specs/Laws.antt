@@ -4,3 +4,4 @@ pub mod Sizes
 pub mod Choices
 pub mod Growth
 pub mod Ranks
+pub mod Arrivals

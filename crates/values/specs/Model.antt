@@ -4,4 +4,5 @@ pub mod Values
 pub mod GuardStates
 pub mod GuardNumbering
 pub mod Sizes
+pub mod Arrivals
 pub mod Leaders

@@ -1,8 +1,10 @@
 // The sheet's output order: ties go to the output whose first literal holds, then the second, and so on.
+use records::limits::Limits;
 use records::numbers::pow2;
 ghost use mathlib.Core.Path.{_≡_};
 ghost use Prim.Native.Nat.{_≤_};
-ghost use Rattle.records.specs.Meaning.Limits.{maxOutputs};
+ghost use Rattle.records.specs.Meaning.Limits.{maxOutputs, maxOuts};
+ghost use Rattle.records.specs.Meaning.Lists.{tab};
 ghost use Rattle.values.specs.Meaning.Order.{literalHolds};
 ghost use Rattle.values.specs.Model.Rank.{rankBy};
 
@@ -32,4 +34,18 @@ pub fn rank_of(literals: [u8; 3], count: usize, o: usize) -> usize
         j += 1;
     }
     rank
+}
+
+// The ranks of all outputs, found once for all choices.
+pub fn ranks_of(literals: [u8; 3], count: usize) -> [usize; Limits::OUTS]
+    requires { ⌜ count ≤ maxOutputs ⌝ }
+    ensures { λ r. ⌜ r ≡ tab maxOuts (rankBy literals count) ⌝ }
+{
+    let mut ranks = [0usize; Limits::OUTS];
+    let mut o: usize = 0;
+    while o < Limits::OUTS {
+        ranks[o] = rank_of(literals, count, o);
+        o += 1;
+    }
+    ranks
 }

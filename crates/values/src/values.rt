@@ -1,36 +1,22 @@
 // Value iteration over a table of steps: what each kept state is worth over a horizon.
 // `ins` and `outs` are the numbers of inputs and of outputs; `gains` holds for each state what a step to it earns,
 // `bonuses` for each letter what it adds; `factor` is the number of words of inputs that are still to come.
+// `arrivals` holds for each state what a step to it earns along all of these words, and what follows: gain and value as one
+// number, made once a round and not once a step.
 use records::clear::clear_front64;
 use rounds::cell_at;
 use rounds::is_kept;
 use rounds::leads_to_kept;
 ghost use mathlib.Core.Path.{_≡_};
-ghost use Prim.Native.Nat.{_+_, _*_, _^_, _≤_, _<_, max};
+ghost use Prim.Native.Nat.{_^_, _≤_, _<_, max};
 ghost use lib.ListN.{length, getD};
 ghost use Rattle.records.specs.Meaning.Limits.{maxHorizon};
 ghost use Rattle.records.specs.Model.Lists.{put};
-ghost use Rattle.rounds.specs.Model.TableRounds.{cellAt, leadsIn};
-ghost use Rattle.rounds.specs.Laws.CellPlaces.{InRow, CellLeads};
+ghost use Rattle.rounds.specs.Model.TableRounds.{cellAt};
+ghost use Rattle.rounds.specs.Laws.CellPlaces.{InRow};
 ghost use Rattle.values.specs.Model.Values.{SizedGame, worth, valueRow};
-ghost use Rattle.values.specs.Model.Sizes.{gameOf, Valued, Ready, scoreIn, Scored, bestOf};
-
-// Whether an output may be given: its step is unbroken and ends in a kept state.
-pub fn may_give(
-    cells: &[u16],
-    dropped: &[u16],
-    ins: usize,
-    outs: usize,
-    k: usize,
-    i: usize,
-    o: usize,
-) -> bool
-    requires { ⌜ InRow ins outs k i o ⌝ }
-    requires { ⌜ CellLeads (now cells) (now dropped) (cellAt ins outs k i o) ⌝ }
-    ensures { λ r. ⌜ r ≡ leadsIn (now (cells .entry)) (now (dropped .entry)) (cellAt ins outs k i o) ⌝ }
-{
-    leads_to_kept(cells, dropped, cell_at(ins, outs, k, i, o))
-}
+ghost use Rattle.values.specs.Model.Sizes.{gameOf, Valued, Ready, bestOf};
+ghost use Rattle.values.specs.Model.Arrivals.{arrival, arrivalGame, Gained, scoreIn, Scored};
 
 // The state after a step.
 pub fn next_of(cells: &[u16], ins: usize, outs: usize, k: usize, i: usize, o: usize) -> usize
@@ -42,19 +28,11 @@ pub fn next_of(cells: &[u16], ins: usize, outs: usize, k: usize, i: usize, o: us
 }
 
 // The score of a step to the state `to` by a letter: what it earns along every word to come, and what follows.
-pub fn score_of(
-    gains: &[u16],
-    bonuses: &[u16],
-    values: &[u64],
-    factor: u64,
-    to: usize,
-    letter: usize,
-) -> u64
-    requires { ⌜ Scored (now gains) (now bonuses) (now values) factor to letter ⌝ }
-    ensures { λ r. ⌜ r ≡ scoreIn (now (gains .entry)) (now (bonuses .entry)) (now (values .entry)) factor to letter ⌝ }
+pub fn score_of(bonuses: &[u16], arrivals: &[u64], factor: u64, to: usize, letter: usize) -> u64
+    requires { ⌜ Scored (now bonuses) (now arrivals) factor to letter ⌝ }
+    ensures { λ r. ⌜ r ≡ scoreIn (now (bonuses .entry)) (now (arrivals .entry)) factor to letter ⌝ }
 {
-    let earned = (gains[to] as u64) + (bonuses[letter] as u64);
-    earned * factor + values[to]
+    arrivals[to] + (bonuses[letter] as u64) * factor
 }
 
 // The larger of two.
@@ -71,30 +49,27 @@ pub fn larger(a: u64, b: u64) -> u64
 pub fn best_score(
     cells: &[u16],
     dropped: &[u16],
-    gains: &[u16],
     bonuses: &[u16],
     ins: usize,
     outs: usize,
-    values: &[u64],
+    arrivals: &[u64],
     factor: u64,
     k: usize,
     i: usize,
 ) -> u64
-    requires { ⌜ Ready (gameOf (now cells) (now dropped) (now gains) (now bonuses) ins outs) (now values) factor k ⌝ }
+    requires { ⌜ Ready (arrivalGame (now cells) (now dropped) (now bonuses) ins outs) (now arrivals) factor k ⌝ }
     requires { ⌜ i < ins ⌝ }
     ensures { λ r. ⌜
-        r ≡ bestOf (gameOf (now (cells .entry)) (now (dropped .entry)) (now (gains .entry)) (now (bonuses .entry)) ins outs)
-        (now (values .entry)) factor k i ⌝ }
+        r ≡ bestOf (arrivalGame (now (cells .entry)) (now (dropped .entry)) (now (bonuses .entry)) ins outs)
+        (now (arrivals .entry)) factor k i ⌝ }
 {
     let mut best: u64 = 0;
     let mut o: usize = 0;
     while o < outs {
-        if may_give(cells, dropped, ins, outs, k, i, o) {
-            let to = next_of(cells, ins, outs, k, i, o);
-            best = larger(
-                best,
-                score_of(gains, bonuses, values, factor, to, i + ins * o),
-            );
+        let at = cell_at(ins, outs, k, i, o);
+        if leads_to_kept(cells, dropped, at) {
+            let to = cells[at] as usize;
+            best = larger(best, score_of(bonuses, arrivals, factor, to, i + ins * o));
         }
         o += 1;
     }
@@ -105,18 +80,17 @@ pub fn best_score(
 pub fn worth_of(
     cells: &[u16],
     dropped: &[u16],
-    gains: &[u16],
     bonuses: &[u16],
     ins: usize,
     outs: usize,
-    values: &[u64],
+    arrivals: &[u64],
     factor: u64,
     k: usize,
 ) -> u64
-    requires { ⌜ Ready (gameOf (now cells) (now dropped) (now gains) (now bonuses) ins outs) (now values) factor k ⌝ }
+    requires { ⌜ Ready (arrivalGame (now cells) (now dropped) (now bonuses) ins outs) (now arrivals) factor k ⌝ }
     ensures { λ r. ⌜
-        r ≡ worth (gameOf (now (cells .entry)) (now (dropped .entry)) (now (gains .entry)) (now (bonuses .entry)) ins outs)
-        (now (values .entry)) factor k ⌝ }
+        r ≡ worth (arrivalGame (now (cells .entry)) (now (dropped .entry)) (now (bonuses .entry)) ins outs)
+        (now (arrivals .entry)) factor k ⌝ }
 {
     if !is_kept(dropped, k) {
         return 0;
@@ -124,64 +98,56 @@ pub fn worth_of(
     let mut sum: u64 = 0;
     let mut i: usize = 0;
     while i < ins {
-        sum += best_score(
-            cells,
-            dropped,
-            gains,
-            bonuses,
-            ins,
-            outs,
-            values,
-            factor,
-            k,
-            i,
-        );
+        sum += best_score(cells, dropped, bonuses, ins, outs, arrivals, factor, k, i);
         i += 1;
     }
     sum
 }
 
-// The row for one step more, written to `next`.
+// The arrivals of the first `n` states, from what they gain and what they are worth.
+pub fn prepare(gains: &[u16], values: &[u64], arrivals: &mut [u64], n: usize, factor: u64)
+    requires { ⌜ Gained n (now gains) ⌝ }
+    requires { ⌜ Valued n (now values) factor ⌝ }
+    requires { ⌜ n ≤ length (now arrivals) ⌝ }
+    ensures { λ _. ⌜
+        now (arrivals .exit) ≡ put (now (arrivals .entry)) n (arrival (now (gains .entry)) (now (values .entry)) factor) ⌝ }
+{
+    let mut k: usize = 0;
+    while k < n {
+        arrivals[k] = (gains[k] as u64) * factor + values[k];
+        k += 1;
+    }
+}
+
+// The row for one step more, from the arrivals.
 pub fn value_round(
     cells: &[u16],
     dropped: &[u16],
-    gains: &[u16],
     bonuses: &[u16],
     ins: usize,
     outs: usize,
     n: usize,
-    values: &[u64],
-    next: &mut [u64],
+    arrivals: &[u64],
+    values: &mut [u64],
     factor: u64,
 )
-    requires { ⌜ SizedGame (gameOf (now cells) (now dropped) (now gains) (now bonuses) ins outs) n ⌝ }
-    requires { ⌜ Valued n (now values) factor ⌝ }
-    requires { ⌜ n ≤ length (now next) ⌝ }
+    requires { ⌜ SizedGame (arrivalGame (now cells) (now dropped) (now bonuses) ins outs) n ⌝ }
+    requires { ⌜ Valued n (now arrivals) factor ⌝ }
+    requires { ⌜ n ≤ length (now values) ⌝ }
     ensures { λ _. ⌜
-        now (next .exit) ≡ put (now (next .entry)) n
-        (worth (gameOf (now (cells .entry)) (now (dropped .entry)) (now (gains .entry)) (now (bonuses .entry)) ins outs)
-        (now (values .entry)) factor) ⌝ }
+        now (values .exit) ≡ put (now (values .entry)) n
+        (worth (arrivalGame (now (cells .entry)) (now (dropped .entry)) (now (bonuses .entry)) ins outs) (now (arrivals .entry))
+        factor) ⌝ }
 {
     let mut k: usize = 0;
     while k < n {
-        next[k] = worth_of(cells, dropped, gains, bonuses, ins, outs, values, factor, k);
+        values[k] = worth_of(cells, dropped, bonuses, ins, outs, arrivals, factor, k);
         k += 1;
     }
 }
 
-// The first `n` values become those of `next`.
-pub fn copy_row(values: &mut [u64], next: &[u64], n: usize)
-    requires { ⌜ (n ≤ length (now values)) × (n ≤ length (now next)) ⌝ }
-    ensures { λ _. ⌜ now (values .exit) ≡ put (now (values .entry)) n (λ k. getD (now (next .entry)) k 0) ⌝ }
-{
-    let mut k: usize = 0;
-    while k < n {
-        values[k] = next[k];
-        k += 1;
-    }
-}
-
-// The values over a horizon, in `values`; what it answers is the number of words of so many inputs.
+// The values over a horizon, in `values`, and from these the arrivals for the choice; what it answers is the number of words of
+// so many inputs.
 pub fn value_rows(
     cells: &[u16],
     dropped: &[u16],
@@ -191,36 +157,39 @@ pub fn value_rows(
     outs: usize,
     n: usize,
     values: &mut [u64],
-    next: &mut [u64],
+    arrivals: &mut [u64],
     horizon: u8,
 ) -> u64
     requires { ⌜ SizedGame (gameOf (now cells) (now dropped) (now gains) (now bonuses) ins outs) n ⌝ }
-    requires { ⌜ (n ≤ length (now values)) × (n ≤ length (now next)) ⌝ }
+    requires { ⌜ n ≤ length (now gains) ⌝ }
+    requires { ⌜ (n ≤ length (now values)) × (n ≤ length (now arrivals)) ⌝ }
     requires { ⌜ (horizon ≤ maxHorizon) × (ins ^ horizon ≤ 2 ^ maxHorizon) ⌝ }
     ensures row { λ _. ⌜
         now (values .exit) ≡ valueRow (gameOf (now (cells .entry)) (now (dropped .entry)) (now (gains .entry)) (now (bonuses .entry))
         ins outs) n (now (values .entry)) horizon ⌝ }
     ensures words { λ r. ⌜ r ≡ ins ^ horizon ⌝ }
+    ensures arrivals { λ _. ⌜
+        now (arrivals .exit) ≡ put (now (arrivals .entry)) n (arrival (now (gains .entry)) (now (values .exit)) (ins ^ horizon)) ⌝ }
 {
     clear_front64(values, n);
     let mut factor: u64 = 1;
     let mut p: u8 = 0;
     while p < horizon {
+        prepare(gains, values, arrivals, n, factor);
         value_round(
             cells,
             dropped,
-            gains,
             bonuses,
             ins,
             outs,
             n,
+            arrivals,
             values,
-            next,
             factor,
         );
-        copy_row(values, next, n);
         factor *= ins as u64;
         p += 1;
     }
+    prepare(gains, values, arrivals, n, factor);
     factor
 }

@@ -117,6 +117,10 @@ put-ext (x ∷ d) (suc n) f g h =
     ap₂ (λ (a : ℕ) (t : List ℕ). a ∷ t) (h 0 (omega arith))
     (put-ext d n (λ k. f (suc k)) (λ k. g (suc k)) (λ k l. h (suc k) (suc-le-suc l)))
 
+-- a front that is the whole list
+pub put-tab : (d : List ℕ) (n : ℕ) (f : ℕ → ℕ) → length d ≡ n → put d n f ≡ tab n f
+put-tab d n f e = tab-eq 0 n f (put d n f) (length-put d n f ∙ e) (λ k h. getD-put-front d n f k 0 h (omega arith))
+
 pub cat-none {ℓ} : {A : Type ℓ} (f : ℕ → List A) → cat 0 f ≡ []
 unfolding cat
 cat-none f = refl

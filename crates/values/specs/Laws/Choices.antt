@@ -20,10 +20,6 @@ use Rattle.values.specs.Model.GuardStates.{chosen, follows}
 use Rattle.values.specs.Model.GuardNumbering.{Following}
 use Rattle.values.specs.Laws.GuardNumbering.{kept-closed}
 
--- the choice that stands at an index of the choices
-abbrev pub choiceIn : Game → List ℕ → List ℕ → ℕ → ℕ → ℕ
-choiceIn g literals values factor at = choiceOf g literals values factor (at / g .ins) (at % g .ins)
-
 module _ (p : ℕ → Bool) (score rank : ℕ → ℕ) where
   -- the leader of n numbers is below n
   pub leader-low : (n : ℕ) → Option·getD (leader n p score rank) 0 ≤ n - 1

@@ -95,15 +95,20 @@ module _ (g : Game) (n : ℕ) (memory : List ℕ) where
         omega arith
 
     -- so values fit over every horizon that the sheet's bounds admit
+    pub row-bound : SizedGame g n → (p : ℕ) → p ≤ maxHorizon → g .ins ^ p ≤ 2 ^ maxHorizon
+        → (k : ℕ) → k < n → getD (valueRow g n memory p) k 0 ≤ maxHorizon * 2295 * 2 ^ maxHorizon
+    row-bound s p steps words k h =
+        omega (
+          arith,
+          row-most s p k h,
+          mul-le-mul {n₁ = p * 2295} {m₁ = g .ins ^ p} {n₂ = maxHorizon * 2295} {m₂ = 2 ^ maxHorizon} (omega arith) words,
+        )
+
     pub row-valued : SizedGame g n → (p : ℕ) → p ≤ maxHorizon → g .ins ^ p ≤ 2 ^ maxHorizon → Valued n (valueRow g n memory p) (g .ins ^ p)
     row-valued s p steps words =
         record {
           room = rw (length-row p) room;
-          most = λ k h. omega (
-            arith,
-            row-most s p k h,
-            mul-le-mul {n₁ = p * 2295} {m₁ = g .ins ^ p} {n₂ = maxHorizon * 2295} {m₂ = 2 ^ maxHorizon} (omega arith) words,
-          );
+          most = λ k h. omega (arith, row-bound s p steps words k h);
           factor-most = words;
         }
 

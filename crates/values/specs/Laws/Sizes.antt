@@ -1,12 +1,12 @@
 -- Laws of what the code relies on.
 -- Assumes nothing.
-use mathlib.Core.Path.{_≡_, refl}
+use mathlib.Core.Path.{_≡_}
 use mathlib.Core.Bool.{true, false, not}
-use mathlib.Core.List.{List}
+use mathlib.Core.List.{List, []}
 use Prim.Native.Nat.{ℕ, _+_, _*_, _<_}
 use native.Mathlib.Nat.{mul-comm}
 use native.Mathlib.Omega.{arith}
-use borrow.Author.Tests.{eqb-false, not-true}
+use borrow.Author.Tests.{not-true}
 use lib.Arith.{digits-lt}
 use lib.ListN.{getD}
 use Rattle.records.specs.Laws.Tests.{and-left, and-right}
@@ -14,7 +14,8 @@ use Rattle.records.specs.Model.Cells.{isBroken}
 use Rattle.rounds.specs.Model.TableRounds.{Steps, isIn, leadsIn}
 use Rattle.rounds.specs.Laws.CellPlaces.{CellEntered, cell-in}
 use Rattle.values.specs.Model.Values.{Game, SizedGame, mayGive, cellNext, scoreOf, earns}
-use Rattle.values.specs.Model.Sizes.{Valued, scoreIn, Scored}
+use Rattle.values.specs.Model.Sizes.{Valued}
+use Rattle.values.specs.Model.Arrivals.{scoreIn, Scored}
 
 -- ---- a step of a sized table
 
@@ -48,24 +49,21 @@ module _ {g : Game} {n : ℕ} (s : SizedGame g n) where
   unfolding mayGive cellNext
   next-kept k i o may = leads-kept (g .cells) (g .dropped) _ may
 
-  pub scored-at : {values : List ℕ} {factor k i o : ℕ} → Valued n values factor → k < n → i < g .ins → o < g .outs
-      → mayGive g k i o ≡ true
-      → Scored (g .gains) (g .bonuses) values factor (cellNext g k i o) (i + g .ins * o)
-  scored-at {values} {factor} {k} {i} {o} v hk hi ho may =
-      let to : cellNext g k i o < n = next-low hk hi ho may in
+  -- and the score of a step to one of them can be worked out
+  pub scored-at : {arrivals : List ℕ} {factor to i o : ℕ} → Valued n arrivals factor → to < n → i < g .ins → o < g .outs
+      → Scored (g .bonuses) arrivals factor to (i + g .ins * o)
+  scored-at {i = i} {o = o} v h hi ho =
       let letter : i + g .ins * o < g .ins * g .outs = cell-letter-low hi ho in
       record {
-        gains-room = omega (arith, s .gains);
-        gain = s .gain _ to;
         bonuses-room = omega (arith, s .bonuses);
         bonus = s .bonus _ letter;
-        values-room = omega (arith, v .room);
-        value = v .most _ to;
+        arrivals-room = omega (arith, v .room);
+        most = v .most _ h;
         factor-most = v .factor-most;
       }
 
 -- a step's score, read from the state after it and its letter
-pub score-read : (g : Game) (values : List ℕ) (factor k i o : ℕ)
-    → scoreIn (g .gains) (g .bonuses) values factor (cellNext g k i o) (i + g .ins * o) ≡ scoreOf g values factor k i o
+pub score-read : (g : Game) → g .gains ≡ [] → (arrivals : List ℕ) (factor k i o : ℕ)
+    → scoreIn (g .bonuses) arrivals factor (cellNext g k i o) (i + g .ins * o) ≡ scoreOf g arrivals factor k i o
 unfolding scoreIn scoreOf earns
-score-read g values factor k i o = refl
+score-read g none arrivals factor k i o = rw none (omega arith)

@@ -1,7 +1,7 @@
 -- What the code relies on: the table from its slices, a step's place in it, and values and factors that fit 64 bits.
 -- Assumes nothing.
 use mathlib.Core.List.{List}
-use Prim.Native.Nat.{ℕ, _+_, _*_, _^_, _≤_, _<_}
+use Prim.Native.Nat.{ℕ, _^_, _≤_, _<_}
 use lib.ListN.{length, getD}
 use Rattle.records.specs.Meaning.Limits.{maxHorizon}
 use Rattle.records.specs.Model.Bounded.{top}
@@ -31,20 +31,6 @@ pub record Ready (g : Game) (values : List ℕ) (factor k : ℕ) : Type 0 where
   pub sized : SizedGame g states
   pub valued : Valued states values factor
   pub state : k < states
-
--- the score of a step to the state `to` by a letter
-unfoldable pub scoreIn : List ℕ → List ℕ → List ℕ → ℕ → ℕ → ℕ → ℕ
-scoreIn gains bonuses values factor to letter = (getD gains to 0 + getD bonuses letter 0) * factor + getD values to 0
-
--- and that it can be read and fits
-pub record Scored (gains bonuses values : List ℕ) (factor to letter : ℕ) : Type 0 where
-  pub gains-room : to < length gains
-  pub gain : getD gains to 0 ≤ 1530
-  pub bonuses-room : letter < length bonuses
-  pub bonus : getD bonuses letter 0 ≤ 765
-  pub values-room : to < length values
-  pub value : getD values to 0 ≤ 2 ^ 40
-  pub factor-most : factor ≤ 2 ^ maxHorizon
 
 -- the largest score of state k at input i
 abbrev pub bestOf : Game → List ℕ → ℕ → ℕ → ℕ → ℕ

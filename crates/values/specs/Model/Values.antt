@@ -70,7 +70,6 @@ pub record SizedGame (g : Game) (n : ℕ) : Type 0 where
   pub rows : n * (g .ins * g .outs) ≤ length (g .cells)
   pub inside : (at : ℕ) → at < n * (g .ins * g .outs) → isBroken (getD (g .cells) at 0) ≡ false → getD (g .cells) at 0 < n
   pub dropped : n ≤ length (g .dropped)
-  pub gains : n ≤ length (g .gains)
   pub gain : (k : ℕ) → k < n → getD (g .gains) k 0 ≤ 1530
   pub bonuses : g .ins * g .outs ≤ length (g .bonuses)
   pub bonus : (l : ℕ) → l < g .ins * g .outs → getD (g .bonuses) l 0 ≤ 765

@@ -6,20 +6,20 @@ use borrow.Author.Needs.{needs}
 use Rattle.records.specs.Model.Lists.{put}
 use Rattle.records.specs.Laws.Lists.{put-none, put-next, length-put}
 use Rattle.values.specs.Model.Values.{worth}
-use Rattle.values.specs.Model.Sizes.{gameOf}
+use Rattle.values.specs.Model.Arrivals.{arrivalGame}
 use Rattle.values.proofs.values.value_round.Statement.{statement}
 use Rattle.values.proofs.values.value_round.Tie as tie
 
 abbrev Inv-loop : tie.InvT-loop
-Inv-loop cells dropped gains bonuses ins outs n values next₀ factor k₀ next k =
-    (k ≤ n) × (next ≡ put next₀ k (worth (gameOf cells dropped gains bonuses ins outs) values factor))
+Inv-loop cells dropped bonuses ins outs n arrivals values₀ factor k₀ values k =
+    (k ≤ n) × (values ≡ put values₀ k (worth (arrivalGame cells dropped bonuses ins outs) arrivals factor))
 
 abbrev μ-loop : tie.MeasureT-loop
-μ-loop cells dropped gains bonuses ins outs n values next₀ factor k₀ next k = n - k
+μ-loop cells dropped bonuses ins outs n arrivals values₀ factor k₀ values k = n - k
 
 -- the places that the needs look back to
 abbrev entry : tie.At-loop Inv-loop μ-loop → tie.Start Inv-loop μ-loop
-entry c = c .before .before .before .before .before .before .before
+entry c = c .before .before .before .before .before .before
 
 abbrev turn : tie.After-worth-of Inv-loop μ-loop → tie.At-loop Inv-loop μ-loop
 turn c = c .before .before
@@ -31,11 +31,11 @@ worth-of-requires : tie.Need-worth-of-requires Inv-loop μ-loop
 worth-of-requires c κs = let r = entry (c .before) .pre in
     record { states = _; sized = r .0; valued = r .1 .0; state = c .loop-test .taken }
 
-mul-next : tie.Need-mul-next Inv-loop μ-loop
-mul-next c = search needs
+mul-values : tie.Need-mul-values Inv-loop μ-loop
+mul-values c = search needs
 
-slice-write-next : tie.Need-slice-write-next Inv-loop μ-loop
-slice-write-next c = rw (turn c .loop .inv .1, length-put) (omega (arith, entry (turn c) .pre .1 .1))
+slice-write-values : tie.Need-slice-write-values Inv-loop μ-loop
+slice-write-values c = rw (turn c .loop .inv .1, length-put) (omega (arith, entry (turn c) .pre .1 .1))
 
 add-k : tie.Need-add-k Inv-loop μ-loop
 add-k c = omega arith
@@ -61,8 +61,8 @@ value-round-spec =
     μ-loop
     loop-holds
     worth-of-requires
-    mul-next
-    slice-write-next
+    mul-values
+    slice-write-values
     add-k
     loop-less
     loop-again

@@ -1,20 +1,20 @@
 -- `values::values::value_rows`: after p turns the row for p steps, and the number of words of p inputs. Assumes nothing.
-use mathlib.Core.Path.{_≡_, _∙_}
-use Prim.Native.Nat.{_-_, _≤_}
-use lib.ListN.{length}
+use mathlib.Core.Path.{_∙_}
+use Prim.Native.Nat.{_-_}
 use native.Mathlib.Omega.{arith}
 use Rattle.values.specs.Model.Values.{Game}
 use Rattle.values.specs.Model.Sizes.{gameOf}
-use Rattle.values.proofs.Iterating.{Iterated, Fits, begin, same, valued, words-most, more, end}
+use Rattle.values.specs.Laws.Arrivals.{bare-sized}
+use Rattle.values.proofs.Iterating.{Iterated, Fits, begin, same, preparable, words-most, new-valued, more, end}
 use Rattle.values.proofs.values.value_rows.Statement.{statement}
 use Rattle.values.proofs.values.value_rows.Tie as tie
 
 abbrev Inv-loop : tie.InvT-loop
-Inv-loop cells dropped gains bonuses ins outs n values₀ next₀ horizon factor₀ p₀ values next factor p =
-    Iterated (gameOf cells dropped gains bonuses ins outs) n horizon values₀ next₀ values next factor p
+Inv-loop cells dropped gains bonuses ins outs n values₀ arrivals₀ horizon factor₀ p₀ values arrivals factor p =
+    Iterated (gameOf cells dropped gains bonuses ins outs) n horizon values₀ arrivals₀ values arrivals factor p
 
 abbrev μ-loop : tie.MeasureT-loop
-μ-loop cells dropped gains bonuses ins outs n values₀ next₀ horizon factor₀ p₀ values next factor p = horizon - p
+μ-loop cells dropped gains bonuses ins outs n values₀ arrivals₀ horizon factor₀ p₀ values arrivals factor p = horizon - p
 
 -- the places that the needs look back to
 abbrev entry : tie.After-clear-front64 Inv-loop μ-loop → tie.Start Inv-loop μ-loop
@@ -23,35 +23,36 @@ entry c = c .before .before .before .before .before .before .before .before
 abbrev cleared : tie.At-loop Inv-loop μ-loop → tie.After-clear-front64 Inv-loop μ-loop
 cleared c = c .before .before .before
 
-abbrev head : tie.After-value-round-arg2 Inv-loop μ-loop → tie.At-loop Inv-loop μ-loop
-head c = c .before .before .before
-
-abbrev turn : tie.After-value-round Inv-loop μ-loop → tie.In-loop Inv-loop μ-loop
+abbrev turn : tie.After-prepare Inv-loop μ-loop → tie.In-loop Inv-loop μ-loop
 turn c = c .before .before .before
 
-abbrev rounded : tie.After-copy-row-arg2 Inv-loop μ-loop → tie.After-value-round Inv-loop μ-loop
-rounded c = c .before .before .before .before
+abbrev ready : tie.After-value-round-arg2 Inv-loop μ-loop → tie.After-prepare Inv-loop μ-loop
+ready c = c .before .before .before .before
 
-abbrev copied : tie.After-slice-known5 Inv-loop μ-loop → tie.After-copy-row Inv-loop μ-loop
-copied c = c .before .before
+abbrev rounded : tie.After-slice-known5 Inv-loop μ-loop → tie.After-value-round Inv-loop μ-loop
+rounded c = c .before .before
+
+abbrev over : tie.After-prepare2 Inv-loop μ-loop → tie.After-loop Inv-loop μ-loop
+over c = c .before .before .before
+
+abbrev done : tie.After-slice-known6 Inv-loop μ-loop → tie.After-prepare2 Inv-loop μ-loop
+done c = c .before .before
 
 abbrev game : tie.Start Inv-loop μ-loop → Game
 game s = gameOf (s .args .cells .now) (s .args .dropped .now) (s .args .gains .now) (s .args .bonuses .now) (s .args .ins) (s .args .outs)
 
 fits : (c : tie.After-clear-front64 Inv-loop μ-loop)
-    → Fits (game (entry c)) (entry c .args .n) (entry c .args .horizon) (c .clear-front64 .last .0) (entry c .args .next .now)
+    → Fits (game (entry c)) (entry c .args .n) (entry c .args .horizon) (c .clear-front64 .last .0) (entry c .args .arrivals .now)
 fits c =
     let p = entry c .pre in
     record {
       sized = p .0;
-      rows = omega (arith, c .clear-front64 .kept .0, p .1 .0 .0);
-      spares = p .1 .0 .1;
-      steps = p .1 .1 .0;
-      few = p .1 .1 .1;
+      gains = p .1 .0;
+      rows = omega (arith, c .clear-front64 .kept .0, p .1 .1 .0 .0);
+      spares = p .1 .1 .0 .1;
+      steps = p .1 .1 .1 .0;
+      few = p .1 .1 .1 .1;
     }
-
-spare : (c : tie.At-loop Inv-loop μ-loop) → entry (cleared c) .args .n ≤ length (c .loop .next)
-spare c = omega (arith, c .loop .inv .room, fits (cleared c) .spares)
 
 clear-front64-requires : tie.Need-clear-front64-requires Inv-loop μ-loop
 clear-front64-requires c κs = omega arith
@@ -59,21 +60,17 @@ clear-front64-requires c κs = omega arith
 loop-holds : tie.Need-loop-holds Inv-loop μ-loop
 loop-holds c = begin _ _ _ _ _ (c .before .before .clear-front64 .ensures)
 
-value-round-requires : tie.Need-value-round-requires Inv-loop μ-loop
-value-round-requires c κs = let h = head c in
-    let f = fits (cleared h) in
-    (f .sized, (valued f (h .loop .inv), spare h))
+prepare-requires : tie.Need-prepare-requires Inv-loop μ-loop
+prepare-requires c κs = let h = c .before .before .before in preparable (fits (cleared h)) (h .loop .inv)
 
-copy-row-requires : tie.Need-copy-row-requires Inv-loop μ-loop
-copy-row-requires c κs = let v = rounded c in
-    let h = head (v .before) in
-    let f = fits (cleared h) in (
-      omega (arith, same f (h .loop .inv), f .rows),
-      omega (arith, spare h, v .value-round .kept .1 .1 .1 .1 .1 .1 .1 .1 .0),
-    )
+value-round-requires : tie.Need-value-round-requires Inv-loop μ-loop
+value-round-requires c κs = let h = turn (ready c) .before in
+    let f = fits (cleared h) in
+    let r = h .loop .inv in
+    (bare-sized (f .sized), (new-valued f r (ready c .prepare .ensures), omega (arith, same f r, f .rows)))
 
 mul-factor : tie.Need-mul-factor Inv-loop μ-loop
-mul-factor c = let i = turn (rounded (copied c .before)) in
+mul-factor c = let i = turn (ready (rounded c .before)) in
     omega (arith, words-most (fits (cleared (i .before))) (i .before .loop .inv) (i .loop-test .taken))
 
 add-p : tie.Need-add-p Inv-loop μ-loop
@@ -83,18 +80,24 @@ loop-less : tie.Need-loop-less Inv-loop μ-loop
 loop-less c = omega arith
 
 loop-again : tie.Need-loop-again Inv-loop μ-loop
-loop-again c = let v = rounded (copied c .before) in
-    let i = turn v in
-    more (fits (cleared (i .before))) (i .before .loop .inv) (i .loop-test .taken) (v .value-round .ensures) (copied c .copy-row .ensures)
+loop-again c = let v = rounded c in
+    let a = ready (v .before) in
+    let i = turn a in
+    more (fits (cleared (i .before))) (i .before .loop .inv) (a .prepare .ensures) (i .loop-test .taken) (v .value-round .ensures)
+
+prepare-requires-2 : tie.Need-prepare-requires-2 Inv-loop μ-loop
+prepare-requires-2 c κs = let h = c .before .before .before in preparable (fits (cleared h)) (h .loop .inv)
 
 same-length : tie.Need-same-length Inv-loop μ-loop
-same-length c = same (fits (cleared (c .before))) (c .before .loop .inv) ∙ cleared (c .before) .clear-front64 .kept .0
+same-length c = let h = over (done c) .before in same (fits (cleared h)) (h .loop .inv) ∙ cleared h .clear-front64 .kept .0
 
 same-length-2 : tie.Need-same-length-2 Inv-loop μ-loop
-same-length-2 c = c .before .loop .inv .room
+same-length-2 c = done c .prepare2 .kept .1 .1 .0 ∙ over (done c) .before .loop .inv .room
 
 returns : tie.Need-returns Inv-loop μ-loop
-returns c = end (fits (cleared (c .before))) (c .before .loop .inv) _ (cleared (c .before) .clear-front64 .ensures) (c .loop-test .left)
+returns c = let d = done c in
+    let h = over d .before in
+    end (fits (cleared h)) (h .loop .inv) (d .prepare2 .ensures) _ (cleared h .clear-front64 .ensures) (over d .loop-test .left)
 
 pub value-rows-spec : {M : Type 1} → statement M
 value-rows-spec =
@@ -104,12 +107,13 @@ value-rows-spec =
     μ-loop
     clear-front64-requires
     loop-holds
+    prepare-requires
     value-round-requires
-    copy-row-requires
     mul-factor
     add-p
     loop-less
     loop-again
+    prepare-requires-2
     same-length
     same-length-2
     returns)

@@ -5,21 +5,21 @@ use native.Mathlib.Omega.{arith}
 use Rattle.records.specs.Laws.Bounded.{sum-none}
 use Rattle.records.specs.Laws.Tests.{said-no, said-yes}
 use Rattle.values.specs.Model.Values.{Game}
-use Rattle.values.specs.Model.Sizes.{gameOf}
+use Rattle.values.specs.Model.Arrivals.{arrivalGame}
 use Rattle.values.proofs.Best.{summed, summed-more, worth-lost, worth-kept}
 use Rattle.values.proofs.values.worth_of.Statement.{statement}
 use Rattle.values.proofs.values.worth_of.Tie as tie
 
 abbrev Inv-loop : tie.InvT-loop
-Inv-loop cells dropped gains bonuses ins outs values factor k sum₀ i₀ sum i =
-    (i ≤ ins) × (sum ≡ summed (gameOf cells dropped gains bonuses ins outs) values factor k i)
+Inv-loop cells dropped bonuses ins outs arrivals factor k sum₀ i₀ sum i =
+    (i ≤ ins) × (sum ≡ summed (arrivalGame cells dropped bonuses ins outs) arrivals factor k i)
 
 abbrev μ-loop : tie.MeasureT-loop
-μ-loop cells dropped gains bonuses ins outs values factor k sum₀ i₀ sum i = ins - i
+μ-loop cells dropped bonuses ins outs arrivals factor k sum₀ i₀ sum i = ins - i
 
 -- the places that the needs look back to
-abbrev entry : tie.After-shared-slice-known5 Inv-loop μ-loop → tie.Start Inv-loop μ-loop
-entry c = c .before .before .before .before .before
+abbrev entry : tie.After-shared-slice-known4 Inv-loop μ-loop → tie.Start Inv-loop μ-loop
+entry c = c .before .before .before .before
 
 abbrev tested : tie.At-loop Inv-loop μ-loop → tie.After-is-kept Inv-loop μ-loop
 tested c = c .before .before
@@ -28,7 +28,7 @@ abbrev turn : tie.After-best-score Inv-loop μ-loop → tie.At-loop Inv-loop μ-
 turn c = c .before .before
 
 abbrev game : tie.Start Inv-loop μ-loop → Game
-game s = gameOf (s .args .cells .now) (s .args .dropped .now) (s .args .gains .now) (s .args .bonuses .now) (s .args .ins) (s .args .outs)
+game s = arrivalGame (s .args .cells .now) (s .args .dropped .now) (s .args .bonuses .now) (s .args .ins) (s .args .outs)
 
 is-kept-requires : tie.Need-is-kept-requires Inv-loop μ-loop
 is-kept-requires c κs = let r = entry c .pre in omega (arith, r .state, r .sized .dropped)
