@@ -1,11 +1,10 @@
 // The maker of guard tables.
 use plan::making::make_with;
-use product::tuple::Product;
-use records::clear::clear8;
 use records::clear::clear16;
 use records::clear::clear64;
 use records::limits::Limits;
 use solve::made::Made;
+use states::index::Index;
 ghost use mathlib.Core.Path.{_≡_};
 ghost use mathlib.Core.List.{[], _∷_};
 ghost use lib.ListN.{length};
@@ -17,14 +16,14 @@ ghost use Rattle.guard.specs.Promises.GuardMaker.{guardWork, MakesGuard}
 pub struct Guard {}
 
 impl Guard {
-    // The tuple of each product state.
-    pub const TUPLES: usize = Product::PLACES * Limits::STATES;
+    // The tuple of each product state, as one number.
+    pub const TUPLES: usize = Limits::STATES;
 
     // The table of steps: a cell for each product state and letter.
     pub const CELLS: usize = Limits::LETTERS * Limits::STATES;
 
-    // The round that dropped each product state.
-    pub const DROPPED: usize = Limits::STATES;
+    // The index of the tuples while they are numbered; then the round that dropped each product state.
+    pub const DROPPED: usize = Index::LINKS;
 
     // What the soft monitors earn in each product state.
     pub const GAINS: usize = Limits::STATES;
@@ -32,13 +31,11 @@ impl Guard {
     // What equal lines earn by each letter.
     pub const BONUSES: usize = Limits::LETTERS;
 
-    // What each product state is worth, and what it is worth one step earlier.
+    // What each product state is worth; then the chosen outputs of each guard state, as one number.
     pub const VALUES: usize = Limits::STATES;
 
-    pub const NEXT: usize = Limits::STATES;
-
-    // The output that each product state chooses at each input.
-    pub const CHOICES: usize = Limits::INS * Limits::STATES;
+    // What arriving in each product state earns and is worth.
+    pub const ARRIVALS: usize = Limits::STATES;
 
     // The product state of each guard state, and for each product state its number in the guard and 1 more.
     pub const ORDER: usize = Limits::STATES;
@@ -49,21 +46,20 @@ impl Guard {
     pub fn make(
         sheet: &[u8],
         result: &mut [u8],
-        tuples: &mut [u8],
+        tuples: &mut [u64],
         cells: &mut [u16],
         dropped: &mut [u16],
         gains: &mut [u16],
         bonuses: &mut [u16],
         values: &mut [u64],
-        next: &mut [u64],
-        choices: &mut [u8],
+        arrivals: &mut [u64],
         order: &mut [u16],
         numbers: &mut [u16],
     ) -> Made
         ensures made { λ r. ⌜
             MakesGuard (now (sheet .entry)) (now (result .entry))
             (length (now (tuples .entry)) ∷ length (now (cells .entry)) ∷ length (now (dropped .entry)) ∷ length (now (gains .entry)) ∷
-            length (now (bonuses .entry)) ∷ length (now (values .entry)) ∷ length (now (next .entry)) ∷ length (now (choices .entry)) ∷
+            length (now (bonuses .entry)) ∷ length (now (values .entry)) ∷ length (now (arrivals .entry)) ∷
             length (now (order .entry)) ∷ length (now (numbers .entry)) ∷ []) r (now (result .exit)) ⌝ }
         ensures tuples { λ _. ⌜ now (tuples .exit) ≡ zeros (length (now (tuples .entry))) ⌝ }
         ensures cells { λ _. ⌜ now (cells .exit) ≡ zeros (length (now (cells .entry))) ⌝ }
@@ -71,8 +67,7 @@ impl Guard {
         ensures gains { λ _. ⌜ now (gains .exit) ≡ zeros (length (now (gains .entry))) ⌝ }
         ensures bonuses { λ _. ⌜ now (bonuses .exit) ≡ zeros (length (now (bonuses .entry))) ⌝ }
         ensures values { λ _. ⌜ now (values .exit) ≡ zeros (length (now (values .entry))) ⌝ }
-        ensures next { λ _. ⌜ now (next .exit) ≡ zeros (length (now (next .entry))) ⌝ }
-        ensures choices { λ _. ⌜ now (choices .exit) ≡ zeros (length (now (choices .entry))) ⌝ }
+        ensures arrivals { λ _. ⌜ now (arrivals .exit) ≡ zeros (length (now (arrivals .entry))) ⌝ }
         ensures order { λ _. ⌜ now (order .exit) ≡ zeros (length (now (order .entry))) ⌝ }
         ensures numbers { λ _. ⌜ now (numbers .exit) ≡ zeros (length (now (numbers .entry))) ⌝ }
     {
@@ -83,8 +78,7 @@ impl Guard {
             gains.len(),
             bonuses.len(),
             values.len(),
-            next.len(),
-            choices.len(),
+            arrivals.len(),
             order.len(),
             numbers.len(),
         );
@@ -98,19 +92,17 @@ impl Guard {
             gains,
             bonuses,
             values,
-            next,
-            choices,
+            arrivals,
             order,
             numbers,
         );
-        clear8(tuples);
+        clear64(tuples);
         clear16(cells);
         clear16(dropped);
         clear16(gains);
         clear16(bonuses);
         clear64(values);
-        clear64(next);
-        clear8(choices);
+        clear64(arrivals);
         clear16(order);
         clear16(numbers);
         made
@@ -125,13 +117,12 @@ fn work_ok(
     gains: usize,
     bonuses: usize,
     values: usize,
-    next: usize,
-    choices: usize,
+    arrivals: usize,
     order: usize,
     numbers: usize,
 ) -> bool
     ensures { λ r. ⌜
-        r ≡ longEnough guardWork (tuples ∷ cells ∷ dropped ∷ gains ∷ bonuses ∷ values ∷ next ∷ choices ∷ order ∷ numbers ∷ []) ⌝ }
+        r ≡ longEnough guardWork (tuples ∷ cells ∷ dropped ∷ gains ∷ bonuses ∷ values ∷ arrivals ∷ order ∷ numbers ∷ []) ⌝ }
 {
     if tuples < Guard::TUPLES {
         return false;
@@ -151,10 +142,7 @@ fn work_ok(
     if values < Guard::VALUES {
         return false;
     }
-    if next < Guard::NEXT {
-        return false;
-    }
-    if choices < Guard::CHOICES {
+    if arrivals < Guard::ARRIVALS {
         return false;
     }
     if order < Guard::ORDER {

@@ -17,7 +17,7 @@ ghost use Rattle.hundlezoqa_c.specs.Promises.Library.{ReportsSupervisor,
 pub extern "C" fn hz_make_supervisor(
     sheet: &[u8],
     result: &mut [u8],
-    tuples: &mut [u8],
+    tuples: &mut [u64],
     cells: &mut [u16],
     dropped: &mut [u16],
     figures: &mut [u64],
@@ -40,14 +40,13 @@ pub extern "C" fn hz_make_supervisor(
 pub extern "C" fn hz_make_guard(
     sheet: &[u8],
     result: &mut [u8],
-    tuples: &mut [u8],
+    tuples: &mut [u64],
     cells: &mut [u16],
     dropped: &mut [u16],
     gains: &mut [u16],
     bonuses: &mut [u16],
     values: &mut [u64],
-    next: &mut [u64],
-    choices: &mut [u8],
+    arrivals: &mut [u64],
     order: &mut [u16],
     numbers: &mut [u16],
     figures: &mut [u64],
@@ -56,7 +55,7 @@ pub extern "C" fn hz_make_guard(
     ensures made { λ r. ⌜
         ReportsGuard (now (sheet .entry)) (now (result .entry))
         (length (now (tuples .entry)) ∷ length (now (cells .entry)) ∷ length (now (dropped .entry)) ∷ length (now (gains .entry)) ∷
-        length (now (bonuses .entry)) ∷ length (now (values .entry)) ∷ length (now (next .entry)) ∷ length (now (choices .entry)) ∷
+        length (now (bonuses .entry)) ∷ length (now (values .entry)) ∷ length (now (arrivals .entry)) ∷
         length (now (order .entry)) ∷ length (now (numbers .entry)) ∷ []) (now (result .exit)) r (now (figures .entry))
         (now (figures .exit)) ⌝ }
     ensures tuples { λ _. ⌜ now (tuples .exit) ≡ zeros (length (now (tuples .entry))) ⌝ }
@@ -65,8 +64,7 @@ pub extern "C" fn hz_make_guard(
     ensures gains { λ _. ⌜ now (gains .exit) ≡ zeros (length (now (gains .entry))) ⌝ }
     ensures bonuses { λ _. ⌜ now (bonuses .exit) ≡ zeros (length (now (bonuses .entry))) ⌝ }
     ensures values { λ _. ⌜ now (values .exit) ≡ zeros (length (now (values .entry))) ⌝ }
-    ensures next { λ _. ⌜ now (next .exit) ≡ zeros (length (now (next .entry))) ⌝ }
-    ensures choices { λ _. ⌜ now (choices .exit) ≡ zeros (length (now (choices .entry))) ⌝ }
+    ensures arrivals { λ _. ⌜ now (arrivals .exit) ≡ zeros (length (now (arrivals .entry))) ⌝ }
     ensures order { λ _. ⌜ now (order .exit) ≡ zeros (length (now (order .entry))) ⌝ }
     ensures numbers { λ _. ⌜ now (numbers .exit) ≡ zeros (length (now (numbers .entry))) ⌝ }
 {
@@ -79,8 +77,7 @@ pub extern "C" fn hz_make_guard(
         gains,
         bonuses,
         values,
-        next,
-        choices,
+        arrivals,
         order,
         numbers,
     );

@@ -45,14 +45,13 @@ fn print_guard(sheet: &[u8], text: &mut [u8]) -> usize
     ensures { λ r. ⌜ PrintsGuard (now (sheet .entry)) (now (text .entry)) r (now (text .exit)) ⌝ }
 {
     let mut result = [0u8; Layout::MOST];
-    let mut tuples = [0u8; Guard::TUPLES];
+    let mut tuples = [0u64; Guard::TUPLES];
     let mut cells = [0u16; Guard::CELLS];
     let mut dropped = [0u16; Guard::DROPPED];
     let mut gains = [0u16; Guard::GAINS];
     let mut bonuses = [0u16; Guard::BONUSES];
     let mut values = [0u64; Guard::VALUES];
-    let mut next = [0u64; Guard::NEXT];
-    let mut choices = [0u8; Guard::CHOICES];
+    let mut arrivals = [0u64; Guard::ARRIVALS];
     let mut order = [0u16; Guard::ORDER];
     let mut numbers = [0u16; Guard::NUMBERS];
     let made = Guard::make(
@@ -64,8 +63,7 @@ fn print_guard(sheet: &[u8], text: &mut [u8]) -> usize
         &mut gains,
         &mut bonuses,
         &mut values,
-        &mut next,
-        &mut choices,
+        &mut arrivals,
         &mut order,
         &mut numbers,
     );

@@ -13,7 +13,7 @@ fn supervisor_of(sheet: &[u8]) -> Made
     ensures { λ r. ⌜ Answered supervisorTable stateCount (now (sheet .entry)) 2048 r ⌝ }
 {
     let mut result = [0u8; 2048];
-    let mut tuples = [0u8; Supervisor::TUPLES];
+    let mut tuples = [0u64; Supervisor::TUPLES];
     let mut cells = [0u16; Supervisor::CELLS];
     let mut dropped = [0u16; Supervisor::DROPPED];
     Supervisor::make(sheet, &mut result, &mut tuples, &mut cells, &mut dropped)
@@ -23,14 +23,13 @@ fn guard_of(sheet: &[u8]) -> Made
     ensures { λ r. ⌜ Answered guardTableOf statesOf (now (sheet .entry)) 2048 r ⌝ }
 {
     let mut result = [0u8; 2048];
-    let mut tuples = [0u8; Guard::TUPLES];
+    let mut tuples = [0u64; Guard::TUPLES];
     let mut cells = [0u16; Guard::CELLS];
     let mut dropped = [0u16; Guard::DROPPED];
     let mut gains = [0u16; Guard::GAINS];
     let mut bonuses = [0u16; Guard::BONUSES];
     let mut values = [0u64; Guard::VALUES];
-    let mut next = [0u64; Guard::NEXT];
-    let mut choices = [0u8; Guard::CHOICES];
+    let mut arrivals = [0u64; Guard::ARRIVALS];
     let mut order = [0u16; Guard::ORDER];
     let mut numbers = [0u16; Guard::NUMBERS];
     Guard::make(
@@ -42,8 +41,7 @@ fn guard_of(sheet: &[u8]) -> Made
         &mut gains,
         &mut bonuses,
         &mut values,
-        &mut next,
-        &mut choices,
+        &mut arrivals,
         &mut order,
         &mut numbers,
     )

@@ -19,20 +19,19 @@ pub fn make_with(
     ok: bool,
     s: &[u8],
     result: &mut [u8],
-    tuples: &mut [u8],
+    tuples: &mut [u64],
     cells: &mut [u16],
     dropped: &mut [u16],
     gains: &mut [u16],
     bonuses: &mut [u16],
     values: &mut [u64],
-    next: &mut [u64],
-    choices: &mut [u8],
+    arrivals: &mut [u64],
     order: &mut [u16],
     numbers: &mut [u16],
 ) -> Made
     requires { ⌜
-        (ok ≡ true → Room (now tuples) (now cells) (now dropped) (now gains) (now bonuses) (now values) (now next) (now choices)
-        (now order) (now numbers)) ⌝ }
+        (ok ≡ true → Room (now tuples) (now cells) (now dropped) (now gains) (now bonuses) (now values) (now arrivals) (now order)
+        (now numbers)) ⌝ }
     ensures { λ r. ⌜ Answers guardTableOf statesOf ok (now (s .entry)) (now (result .entry)) r (now (result .exit)) ⌝ }
 {
     let opening = open_sheet(ok, s, tuples, cells, dropped);
@@ -58,8 +57,7 @@ pub fn make_with(
                 gains,
                 bonuses,
                 values,
-                next,
-                choices,
+                arrivals,
                 order,
                 numbers,
             );
@@ -76,9 +74,8 @@ pub fn make_with(
                 horizon,
                 ins,
                 outs,
-                states,
                 cells,
-                choices,
+                values,
                 order,
                 numbers,
                 count,

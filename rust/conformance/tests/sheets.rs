@@ -13,7 +13,7 @@ const MARGIN: usize = 32;
 
 /// The work slices that a maker is lent.
 const SUPERVISOR_SLICES: usize = 3;
-const GUARD_SLICES: usize = 10;
+const GUARD_SLICES: usize = 9;
 
 /// Work memory full of anything, each slice longer than its constant by so much.
 fn any_work(random: &mut Random, beyond: usize) -> Work {
@@ -25,7 +25,7 @@ fn any_work(random: &mut Random, beyond: usize) -> Work {
             work.$slice = (0..length).map(|_| random.number() as _).collect();
         )*};
     }
-    fill!(tuples, cells, dropped, gains, bonuses, values, next, choices, order, numbers);
+    fill!(tuples, cells, dropped, gains, bonuses, values, arrivals, order, numbers);
     work
 }
 
@@ -43,7 +43,7 @@ fn shorten(work: &mut Work, slice: usize, random: &mut Random) {
         };
     }
     shorten!(0 tuples TUPLES, 1 cells CELLS, 2 dropped DROPPED, 3 gains GAINS, 4 bonuses BONUSES,
-        5 values VALUES, 6 next NEXT, 7 choices CHOICES, 8 order ORDER, 9 numbers NUMBERS);
+        5 values VALUES, 6 arrivals ARRIVALS, 7 order ORDER, 8 numbers NUMBERS);
 }
 
 /// Which of the two tables is made.

@@ -35,7 +35,7 @@ library! {
     fn hz_make_supervisor(
         sheet: *const u8, sheet_len: usize,
         result: *mut u8, result_len: usize,
-        tuples: *mut u8, tuples_len: usize,
+        tuples: *mut u64, tuples_len: usize,
         cells: *mut u16, cells_len: usize,
         dropped: *mut u16, dropped_len: usize,
         figures: *mut u64, figures_len: usize,
@@ -43,14 +43,13 @@ library! {
     fn hz_make_guard(
         sheet: *const u8, sheet_len: usize,
         result: *mut u8, result_len: usize,
-        tuples: *mut u8, tuples_len: usize,
+        tuples: *mut u64, tuples_len: usize,
         cells: *mut u16, cells_len: usize,
         dropped: *mut u16, dropped_len: usize,
         gains: *mut u16, gains_len: usize,
         bonuses: *mut u16, bonuses_len: usize,
         values: *mut u64, values_len: usize,
-        next: *mut u64, next_len: usize,
-        choices: *mut u8, choices_len: usize,
+        arrivals: *mut u64, arrivals_len: usize,
         order: *mut u16, order_len: usize,
         numbers: *mut u16, numbers_len: usize,
         figures: *mut u64, figures_len: usize,
@@ -101,9 +100,9 @@ pub fn make_guard(
     work: &mut Work,
     figures: &mut [u64; FIGURES],
 ) -> u32 {
-    // SAFETY: `sheet` is valid for reads of its length. `result`, `figures` and the ten vectors of
+    // SAFETY: `sheet` is valid for reads of its length. `result`, `figures` and the nine vectors of
     // `work` are each valid for reads and writes of their own length; each is borrowed by `&mut` or
-    // owned by what is, so that no two of the thirteen overlap. The one length asked for is that of
+    // owned by what is, so that no two of the twelve overlap. The one length asked for is that of
     // the figures, at least 2, and `FIGURES` is 2; shorter work or result memory is refused.
     unsafe {
         hz_make_guard(
@@ -123,10 +122,8 @@ pub fn make_guard(
             work.bonuses.len(),
             work.values.as_mut_ptr(),
             work.values.len(),
-            work.next.as_mut_ptr(),
-            work.next.len(),
-            work.choices.as_mut_ptr(),
-            work.choices.len(),
+            work.arrivals.as_mut_ptr(),
+            work.arrivals.len(),
             work.order.as_mut_ptr(),
             work.order.len(),
             work.numbers.as_mut_ptr(),

@@ -1,8 +1,9 @@
-// Product states, letters and inputs at most, and the places of a tuple: every size here is made from these.
+// Product states, letters and inputs at most, and the buckets and forks of the tuples' index: every size here is made from these.
 pub(crate) const STATES_MOST: usize = 256;
 pub(crate) const INPUTS_MOST: usize = 16;
 const LETTERS_MOST: usize = 64;
-const PLACES: usize = 12;
+const BUCKETS: usize = 521;
+const FORKS: usize = 4;
 
 /// The work memory that the makers are lent.
 ///
@@ -11,22 +12,21 @@ const PLACES: usize = 12;
 /// ([`Refusal::ShortWork`](crate::Refusal::ShortWork)).
 #[derive(Clone, Debug, PartialEq, Eq)]
 pub struct Work {
-    /// The product states, twelve monitor states each.
-    pub tuples: Vec<u8>,
+    /// The product states, twelve monitor states packed into one number.
+    pub tuples: Vec<u64>,
     /// For each product state and letter the next state.
     pub cells: Vec<u16>,
-    /// The round that dropped each product state.
+    /// The index of the product states while they are numbered; then the round that dropped each.
     pub dropped: Vec<u16>,
     /// Rewards by product state.
     pub gains: Vec<u16>,
     /// Rewards by letter.
     pub bonuses: Vec<u16>,
-    /// The best of each product state over the steps so far.
+    /// The best of each product state over the steps so far; then the outputs chosen for each of
+    /// the guard's states.
     pub values: Vec<u64>,
-    /// The same for one step more.
-    pub next: Vec<u64>,
-    /// The output chosen for each product state and input.
-    pub choices: Vec<u8>,
+    /// What arriving in each product state earns and is worth.
+    pub arrivals: Vec<u64>,
     /// The product states in the order of the guard's.
     pub order: Vec<u16>,
     /// The guard's number of each product state.
@@ -36,14 +36,13 @@ pub struct Work {
 /// The least lengths, in elements.
 #[allow(missing_docs)]
 impl Work {
-    pub const TUPLES: usize = PLACES * STATES_MOST;
+    pub const TUPLES: usize = STATES_MOST;
     pub const CELLS: usize = LETTERS_MOST * STATES_MOST;
-    pub const DROPPED: usize = STATES_MOST;
+    pub const DROPPED: usize = BUCKETS + FORKS * STATES_MOST;
     pub const GAINS: usize = STATES_MOST;
     pub const BONUSES: usize = LETTERS_MOST;
     pub const VALUES: usize = STATES_MOST;
-    pub const NEXT: usize = STATES_MOST;
-    pub const CHOICES: usize = INPUTS_MOST * STATES_MOST;
+    pub const ARRIVALS: usize = STATES_MOST;
     pub const ORDER: usize = STATES_MOST;
     pub const NUMBERS: usize = STATES_MOST;
 }
@@ -58,8 +57,7 @@ impl Work {
             gains: vec![0; Work::GAINS],
             bonuses: vec![0; Work::BONUSES],
             values: vec![0; Work::VALUES],
-            next: vec![0; Work::NEXT],
-            choices: vec![0; Work::CHOICES],
+            arrivals: vec![0; Work::ARRIVALS],
             order: vec![0; Work::ORDER],
             numbers: vec![0; Work::NUMBERS],
         }
@@ -71,8 +69,7 @@ impl Work {
             && self.gains.iter().all(|&x| x == 0)
             && self.bonuses.iter().all(|&x| x == 0)
             && self.values.iter().all(|&x| x == 0)
-            && self.next.iter().all(|&x| x == 0)
-            && self.choices.iter().all(|&x| x == 0)
+            && self.arrivals.iter().all(|&x| x == 0)
             && self.order.iter().all(|&x| x == 0)
             && self.numbers.iter().all(|&x| x == 0)
     }
@@ -93,10 +90,8 @@ impl Default for Work {
 
 // Document 01's bound on the bytes of all work memory together.
 const _: () = assert!(
-    Work::TUPLES
-        + Work::CHOICES
+    8 * (Work::TUPLES + Work::VALUES + Work::ARRIVALS)
         + 2 * (Work::CELLS + Work::DROPPED + Work::GAINS + Work::BONUSES)
         + 2 * (Work::ORDER + Work::NUMBERS)
-        + 8 * (Work::VALUES + Work::NEXT)
         <= 65_536
 );
