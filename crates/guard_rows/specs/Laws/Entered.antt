@@ -8,6 +8,7 @@ use lib.Arith.{digits-lt}
 use lib.Dec.{eqb}
 use lib.ListN.{length, getD}
 use Rattle.records.specs.Meaning.Limits.{maxOuts}
+use Rattle.records.specs.Model.Digits.{packed}
 use Rattle.records.specs.Laws.Digits.{digit-packed}
 use Rattle.rounds.specs.Laws.CellPlaces.{row-in-table}
 use Rattle.game.specs.Model.Numbering.{there, find}
@@ -19,6 +20,21 @@ use Rattle.values.specs.Model.GuardNumbering.{GuardReached, Following}
 use Rattle.values.specs.Laws.GuardNumbering.{entry-met, stage-fits, stage-reached, guard-exactly}
 use Rattle.guard_rows.specs.Model.Entered.{outputBy, nextBy, numbered, tableBy, Entered, Tabled}
 use Rattle.guard_rows.specs.Model.Guarded.{Guarded}
+
+-- ---- a row of chosen outputs
+
+module _ {g : Game} {choices : List ℕ} {n : ℕ} (following : Following g choices n) {k : ℕ} (state : k < n) where
+  output : (i : ℕ) → i < g .ins → chosen g choices k i < g .outs
+  unfolding chosen
+  output i h = following .output _ (digits-lt state h)
+
+  -- its digits are these
+  pub row-digit : g .outs ≤ maxOuts → {row : ℕ} → row ≡ packed maxOuts (g .ins) (chosen g choices k)
+      → (i : ℕ) → i < g .ins → outputBy row i ≡ chosen g choices k i
+  row-digit most e i h =
+      rw e (digit-packed maxOuts (omega arith) (g .ins) (chosen g choices k) (λ x l. omega (arith, output x l)) i h)
+
+-- ---- the table
 
 module _ {g : Game} {choices rows order numbers : List ℕ} {n count : ℕ} (following : Following g choices n)
     (guarded : Guarded g choices n rows order numbers count) where
@@ -43,15 +59,10 @@ module _ {g : Game} {choices rows order numbers : List ℕ} {n count : ℕ} (fol
 
   -- and its row's digits are its chosen outputs
   module _ (outs-most : g .outs ≤ maxOuts) where
-    output : (k i : ℕ) → k < n → i < g .ins → chosen g choices k i < g .outs
-    unfolding chosen
-    output k i hk hi = following .output _ (digits-lt hk hi)
-
     pub row-chosen : (j i : ℕ) → j < count → i < g .ins → outputBy (getD rows j 0) i ≡ chosen g choices (getD order j 0) i
     row-chosen j i hj hi =
-        rw (guarded .rows-chosen j hj, ← guarded .numbered .states j (omega (arith, guarded .numbered .counted)))
-        (digit-packed maxOuts (omega arith) (g .ins) (chosen g choices (getD order j 0))
-        (λ x h. omega (arith, output (getD order j 0) x (low j hj) h)) i hi)
+        row-digit following (low j hj) outs-most
+        (rw (guarded .numbered .states j (omega (arith, guarded .numbered .counted))) (guarded .rows-chosen j hj)) i hi
 
     next-chosen : (j i : ℕ) → j < count → i < g .ins → nextBy g (getD rows j 0) (getD order j 0) i ≡ follows g choices (getD order j 0) i
     unfolding follows
@@ -73,7 +84,7 @@ module _ {g : Game} {choices rows order numbers : List ℕ} {n count : ℕ} (fol
       entered j h =
           record {
             steps = omega (arith, row-in-table (g .ins * g .outs) (low j h), following .steps .rows);
-            output = λ i hi. rw (row-chosen j i h hi) (output _ i (low j h) hi);
+            output = λ i hi. rw (row-chosen j i h hi) (output following (low j h) i hi);
             room = λ i hi. rw (next-chosen j i h hi) (omega (arith, next-low i hi));
             least = λ i hi. rw (next-chosen j i h hi, entry i hi) (omega arith);
             most = λ i hi. rw (next-chosen j i h hi, entry i hi)
