@@ -12,14 +12,15 @@ use Rattle.guard_table.specs.Meaning.GuardTable.{rowKind, headLength, entryWidt
 use Rattle.guard_table.specs.Meaning.GuardTable.{guardHead, guardEntry, guardRow, guardTable}
 use Rattle.guard_table.specs.Laws.GuardTable.{entries-begin, entry-next-to}
 use Rattle.values.specs.Model.Values.{Game}
-use Rattle.values.specs.Model.GuardStates.{chosen}
-use Rattle.guard_rows.specs.Model.Entered.{numbered, guardRowBy, tableBy}
+use Rattle.guard_rows.specs.Model.Entered.{outputBy, numbered, guardRowBy, tableBy}
 
 -- an entry, after those before it
-pub entry-stored : (before : List ℕ) (lines place i a : ℕ) {at : ℕ} → at ≡ entryAt lines place i → {b c : ℕ} → b ≡ c → {after : List ℕ}
-    → after ≡ sets before at (guardEntry a b) → after ≡ sets before (entryAt lines place 0 + i * entryWidth) (guardEntry a c)
-entry-stored before lines place i a e f g =
-    g ∙ ap₂ (λ (n x : ℕ). sets before n (guardEntry a x)) (e ∙ entry-next-to lines place i) f
+pub entry-stored : (before : List ℕ) (lines place i : ℕ) {at : ℕ} → at ≡ entryAt lines place i → {a b : ℕ} → a ≡ b → {c d : ℕ} → c ≡ d
+    → {after : List ℕ} → after ≡ sets before at (guardEntry a c)
+    → after ≡ sets before (entryAt lines place 0 + i * entryWidth) (guardEntry b d)
+entry-stored before lines place i e f g h =
+    h
+    ∙ ap₂ (λ (n : ℕ) (l : List ℕ). sets before n l) (e ∙ entry-next-to lines place i) (ap₂ guardEntry f g)
 
 -- a row: its header, then its entries
 pub row-stored : (before : List ℕ) (lines place : ℕ) (out next : ℕ → ℕ) {ins : ℕ} → ins ≡ 2 ^ lines → {head after : List ℕ}
@@ -45,12 +46,12 @@ table-written before mode ins outs horizon count out next =
     sets-append before 0 (guardHead mode ins outs horizon count) (cat count (λ k. guardRow ins (out k) (next k)))
 
 -- a table: its head, then its rows
-pub table-stored : (before : List ℕ) (mode lines outs horizon count : ℕ) (g : Game) (choices order numbers : List ℕ) {head after : List ℕ}
+pub table-stored : (before : List ℕ) (mode lines outs horizon count : ℕ) (g : Game) (rows order numbers : List ℕ) {head after : List ℕ}
     → head ≡ sets before 0 (guardHead mode lines outs horizon count)
-    → after ≡ sets head headLength (cat count (λ j. guardRowBy lines g choices numbers (getD order j 0)))
-    → after ≡ sets before 0 (tableBy mode lines outs horizon count g choices order numbers)
-table-stored before mode lines outs horizon count g choices order numbers {head} {after} e f =
+    → after ≡ sets head headLength (cat count (λ j. guardRowBy lines g (getD rows j 0) numbers (getD order j 0)))
+    → after ≡ sets before 0 (tableBy mode lines outs horizon count g rows order numbers)
+table-stored before mode lines outs horizon count g rows order numbers {head} {after} e f =
     f
-    ∙ ap (λ (l : List ℕ). sets l headLength (cat count (λ j. guardRowBy lines g choices numbers (getD order j 0)))) e
-    ∙ table-written before mode lines outs horizon count (λ j. chosen g choices (getD order j 0))
-    (λ j. numbered g choices numbers (getD order j 0))
+    ∙ ap (λ (l : List ℕ). sets l headLength (cat count (λ j. guardRowBy lines g (getD rows j 0) numbers (getD order j 0)))) e
+    ∙ table-written before mode lines outs horizon count (λ j. outputBy (getD rows j 0))
+    (λ j. numbered g (getD rows j 0) numbers (getD order j 0))

@@ -1,46 +1,51 @@
 -- The entries that the code writes, read from work memory, and what reading them relies on.
+-- The chosen outputs of a guard state are one number, its row: a digit for each input, the lowest first.
 -- Assumes nothing.
 use mathlib.Core.List.{List}
-use Prim.Native.Nat.{ℕ, _-_, _≤_, _<_}
+use Prim.Native.Nat.{ℕ, _+_, _-_, _*_, _≤_, _<_}
 use lib.ListN.{length, getD}
+use Rattle.records.specs.Meaning.Limits.{maxStates, maxOuts}
+use Rattle.records.specs.Model.Digits.{digit}
 use Rattle.guard_table.specs.Meaning.GuardTable.{nextEnd, guardEntry, guardRow, guardTable}
-use Rattle.values.specs.Model.Values.{Game}
-use Rattle.values.specs.Model.GuardStates.{chosen, follows, guardStates}
-use Rattle.values.specs.Model.GuardNumbering.{Following, Numbered}
+use Rattle.values.specs.Model.Values.{Game, cellNext}
 
 -- ---- an entry
 
--- the guard state after the chosen output, where `numbers` has for each product state its number and 1 more
-unfoldable pub numbered : Game → List ℕ → List ℕ → ℕ → ℕ → ℕ
-numbered g choices numbers k i = getD numbers (follows g choices k i) 0 - 1
+-- the output of a row at input i
+abbrev pub outputBy : ℕ → ℕ → ℕ
+outputBy row i = digit maxOuts row i
 
--- the entry of product state k at input i
-abbrev pub entryBy : Game → List ℕ → List ℕ → ℕ → ℕ → List ℕ
-entryBy g choices numbers k i = guardEntry (chosen g choices k i) (numbered g choices numbers k i)
+-- the state after it, of product state k
+abbrev pub nextBy : Game → ℕ → ℕ → ℕ → ℕ
+nextBy g row k i = cellNext g k i (outputBy row i)
 
--- its row
-abbrev pub guardRowBy : ℕ → Game → List ℕ → List ℕ → ℕ → List ℕ
-guardRowBy lines g choices numbers k = guardRow lines (chosen g choices k) (numbered g choices numbers k)
+-- and its number in the guard, where `numbers` has for each product state its number and 1 more
+unfoldable pub numbered : Game → ℕ → List ℕ → ℕ → ℕ → ℕ
+numbered g row numbers k i = getD numbers (nextBy g row k i) 0 - 1
 
--- a table of the entries of the product states in `order`
+-- the row of product state k in the table
+abbrev pub guardRowBy : ℕ → Game → ℕ → List ℕ → ℕ → List ℕ
+guardRowBy lines g row numbers k = guardRow lines (outputBy row) (numbered g row numbers k)
+
+-- a table of the entries of the product states in `order`, by their rows
 abbrev pub tableBy : ℕ → ℕ → ℕ → ℕ → ℕ → Game → List ℕ → List ℕ → List ℕ → List ℕ
-tableBy mode lines outs horizon count g choices order numbers =
-    guardTable mode lines outs horizon count (λ j. chosen g choices (getD order j 0)) (λ j. numbered g choices numbers (getD order j 0))
+tableBy mode lines outs horizon count g rows order numbers =
+    guardTable mode lines outs horizon count (λ j. outputBy (getD rows j 0))
+    (λ j. numbered g (getD rows j 0) numbers (getD order j 0))
 
 -- ---- what the code relies on
 
--- product state k is one of n, and every state that it leads to has a number
-pub record Entered (g : Game) (choices numbers : List ℕ) (n k : ℕ) : Type 0 where
-  pub following : Following g choices n
-  pub room : n ≤ length numbers
-  pub state : k < n
-  pub low : (i : ℕ) → i < g .ins → follows g choices k i < n
-  pub least : (i : ℕ) → i < g .ins → 1 ≤ getD numbers (follows g choices k i) 0
-  pub most : (i : ℕ) → i < g .ins → getD numbers (follows g choices k i) 0 ≤ nextEnd
+-- product state k has its steps in the table, and its row's outputs lead to states that have numbers
+pub record Entered (g : Game) (row : ℕ) (numbers : List ℕ) (k : ℕ) : Type 0 where
+  pub steps : k * (g .ins * g .outs) + g .ins * g .outs ≤ length (g .cells)
+  pub output : (i : ℕ) → i < g .ins → outputBy row i < g .outs
+  pub room : (i : ℕ) → i < g .ins → nextBy g row k i < length numbers
+  pub least : (i : ℕ) → i < g .ins → 1 ≤ getD numbers (nextBy g row k i) 0
+  pub most : (i : ℕ) → i < g .ins → getD numbers (nextBy g row k i) 0 ≤ nextEnd
 
--- the guard's states, numbered
-pub record Tabled (g : Game) (choices order numbers : List ℕ) (n count : ℕ) : Type 0 where
-  pub following : Following g choices n
-  pub order-room : n ≤ length order
-  pub numbers-room : n ≤ length numbers
-  pub numbered : Numbered n (guardStates g choices n) order numbers count
+-- so has each of `count` guard states
+pub record Tabled (g : Game) (rows order numbers : List ℕ) (count : ℕ) : Type 0 where
+  pub few : count ≤ maxStates
+  pub rows-room : count ≤ length rows
+  pub order-room : count ≤ length order
+  pub entered : (j : ℕ) → j < count → Entered g (getD rows j 0) numbers (getD order j 0)

@@ -2,7 +2,6 @@
 use native.Mathlib.Omega.{arith}
 use Rattle.guard_table.specs.Meaning.GuardTable.{tableLength}
 use Rattle.values.specs.Model.GuardNumbering.{stepsOf}
-use Rattle.guard_rows.specs.Laws.Entered.{count-most}
 use Rattle.guard_rows.proofs.Stores.{table-stored}
 use borrow.Author.Needs.{needs}
 use Rattle.guard_rows.proofs.table.write.Statement.{statement}
@@ -19,7 +18,7 @@ abbrev stored : tie.After-slice-known3 → tie.After-put-rows
 stored c = c .before .before
 
 cast-put-head : tie.Need-cast-put-head
-cast-put-head c = let s = start c in omega (arith, count-most (s .pre .0), s .pre .0 .following .states)
+cast-put-head c = omega (arith, start c .pre .0 .few)
 
 put-head-requires : tie.Need-put-head-requires
 unfolding tableLength
@@ -36,7 +35,7 @@ returns : tie.Need-returns
 returns c = let at = headed (stored c .before) in
     let a = start (at .before) .args in
     table-stored (a .result .now) (a .sheet .mode) (a .sheet .inputs) (a .sheet .outputs) (a .horizon) (a .count)
-    (stepsOf (a .cells .now) (a .ins) (a .outs)) (a .choices .now) (a .order .now) (a .numbers .now)
+    (stepsOf (a .cells .now) (a .ins) (a .outs)) (a .rows .now) (a .order .now) (a .numbers .now)
     (at .put-head .ensures) (stored c .put-rows .ensures)
 
 pub write-spec : {M : Type 1} → statement M
