@@ -65,8 +65,8 @@ module _ (horizon : Decoded → ℕ) where
   module _ {s : List ℕ} {sheet : Sheet} (fits : Fits s sheet) {n : ℕ} {tuples cells dropped : List ℕ}
       (p : Playable (decoded s sheet) n tuples cells dropped)
       {h : ℕ} (over : h ≡ horizon (decoded s sheet))
-      {g : Game} {choices order numbers : List ℕ} {count : ℕ}
-      (planned : Planned (decoded s sheet) h g choices order numbers n count)
+      {g : Game} {rows order numbers : List ℕ} {count : ℕ}
+      (planned : Planned (decoded s sheet) h g rows order numbers count)
       (before : List ℕ) {size : ℕ} (is-size : size ≡ tableLength (sheet .inputs) count)
     where
       states-are : count ≡ states (decoded s sheet)
@@ -80,16 +80,16 @@ module _ (horizon : Decoded → ℕ) where
       layout-short l = solved-short (p .solution) before refl (omega (arith, size-is))
 
       -- the table of these entries is the sheet's
-      table-is : tableBy (sheet .mode) (sheet .inputs) (sheet .outputs) h count g choices order numbers ≡ table (decoded s sheet)
+      table-is : tableBy (sheet .mode) (sheet .inputs) (sheet .outputs) h count g rows order numbers ≡ table (decoded s sheet)
       unfolding decoded guardTableBy
       table-is =
-          ap (λ (x : ℕ). tableBy (sheet .mode) x (sheet .outputs) h count g choices order numbers) (fits .inputs)
+          ap (λ (x : ℕ). tableBy (sheet .mode) x (sheet .outputs) h count g rows order numbers) (fits .inputs)
           ∙ planned .table
           ∙ ap (guardOver (decoded s sheet)) over
 
       -- or it does, and is written
       pub layout-written : size ≤ length before → {after : List ℕ}
-          → after ≡ sets before 0 (tableBy (sheet .mode) (sheet .inputs) (sheet .outputs) h count g choices order numbers)
+          → after ≡ sets before 0 (tableBy (sheet .mode) (sheet .inputs) (sheet .outputs) h count g rows order numbers)
           → Judges table states (decoded s sheet) before (Table size count) after
       layout-written l {after} wrote =
           let bytes : after ≡ sets before 0 (table (decoded s sheet)) = wrote ∙ ap (λ (t : List ℕ). sets before 0 t) table-is in

@@ -1,12 +1,13 @@
 -- How the code comes by what planning leaves.
 -- Assumes nothing.
-use mathlib.Core.Path.{_≡_, refl, sym, ap, _∙_, subst}
+use mathlib.Core.Path.{_≡_, refl, sym, ap, ap₂, _∙_, subst}
 use mathlib.Core.Bool.{true}
 use mathlib.Core.List.{List}
-use Prim.Native.Nat.{ℕ, _*_, _/_, _%_, _^_, _≤_, _<_}
-use native.Mathlib.Nat.{mul-le-mul}
+use Prim.Native.Nat.{ℕ, _-_, _*_, _/_, _%_, _^_, _≤_, _<_}
 use native.Mathlib.Omega.{arith}
-use lib.ListN.{length, getD}
+use lib.ListN.{length, getD, length-replicate}
+use Rattle.records.specs.Meaning.Lists.{tab}
+use Rattle.records.specs.Meaning.Numbers.{zeros}
 use Rattle.records.specs.Meaning.Limits.{maxStates, maxIns, maxOuts, maxLetters, maxHorizon, horizonOk}
 use Rattle.records.specs.Laws.Limits.{horizon-facts}
 use Rattle.records.specs.Model.Lists.{put}
@@ -27,9 +28,10 @@ use Rattle.solve.specs.Model.Steps.{droppedOf}
 use Rattle.solve.specs.Model.Solve.{Solution}
 use Rattle.product.specs.Laws.Counts.{inputs-most, outputs-most, letters-most, layout-inputs, layout-outputs}
 use Rattle.values.specs.Model.Values.{Game, SizedGame, valueRow}
-use Rattle.values.specs.Model.Sizes.{Valued}
+use Rattle.values.specs.Model.Arrivals.{arrival, arrivalGame, rankedChoices, Prepared}
+use Rattle.values.specs.Model.Rank.{rankBy}
 use Rattle.values.specs.Model.Sizes as sizes
-use Rattle.values.specs.Laws.Growth.{row-valued}
+use Rattle.values.specs.Laws.Arrivals.{prepared, bare-ready, arrivals-valued, ranked-choices}
 use Rattle.values.specs.Model.Leaders.{literalsOf}
 use Rattle.values.specs.Model.GuardStates.{chosen, follows, guardStates}
 use Rattle.values.specs.Model.Values as vals
@@ -39,8 +41,10 @@ use Rattle.values.specs.Laws.Choices.{choices-following}
 use Rattle.plan.specs.Model.GuardOfSheet.{ownHorizon, guardOf, guardCount}
 use Rattle.plan.specs.Laws.SamePlan.{SameGuard, choicesBy, stored-guard}
 use Rattle.plan.specs.Laws.Solved.{sheet-horizon, few, words-most, layout-literals, stored, sized, code-table}
-use Rattle.guard_rows.specs.Model.Entered.{numbered, tableBy}
-use Rattle.plan.specs.Model.Planned.{choicesLength, Playable, Planned}
+use Rattle.guard_table.specs.Meaning.GuardTable.{guardTable}
+use Rattle.guard_rows.specs.Model.Guarded.{Choosing, Guarded}
+use Rattle.guard_rows.specs.Laws.Entered.{table-chosen, tabled}
+use Rattle.plan.specs.Model.Planned.{Playable, Planned}
 
 -- ---- a layout's numbers
 
@@ -100,10 +104,6 @@ module _ {s : List ℕ} {sheet : Sheet} (fits : Fits s sheet) {n : ℕ} {tuples 
       rw (ins-are, outs-are) (letters-most (decoded s sheet) (fits .ok .head)),
     )
 
-    -- the choices have room
-    pub choices-room : n * ins ≤ choicesLength
-    choices-room = omega (arith, mul-le-mul (p .solution .numbering .most) (counts-low .1))
-
     -- the words of a horizon in bounds
     pub plan-words : (h : ℕ) → horizonOk (inputLines (decoded s sheet)) h ≡ true → (h ≤ maxHorizon) × (ins ^ h ≤ 2 ^ maxHorizon)
     plan-words h far = (horizon-facts _ h far .most, rw ins-are (words-most (decoded s sheet) h far))
@@ -138,76 +138,94 @@ module _ {s : List ℕ} {sheet : Sheet} (fits : Fits s sheet) {n : ℕ} {tuples 
         pub plan-sized : cellsLength ≤ length cells → maxStates ≤ length dropped → SizedGame game n
         plan-sized wide-cells wide-dropped =
             sized (p .solution) gains bonuses ins outs ins-are outs-are earned-at matched-at (fits .ok) wide-cells wide-dropped
-            (rw (earned, length-put) gains-room) (rw (matched, length-put) bonuses-room)
+            (rw (matched, length-put) bonuses-room)
 
         module _ (wide-cells : cellsLength ≤ length cells) (wide-dropped : maxStates ≤ length dropped)
             (h : ℕ) (far : horizonOk (inputLines (decoded s sheet)) h ≡ true)
-            (values₀ choices₀ : List ℕ) {values : List ℕ} {words : ℕ}
+            (values₀ arrivals₀ : List ℕ) {values arrivals : List ℕ} {words : ℕ}
             (valued : values ≡ valueRow game n values₀ h) (counted : words ≡ ins ^ h)
-            (values-room : maxStates ≤ length values₀) (chosen-room : choicesLength ≤ length choices₀)
+            (arrived : arrivals ≡ put arrivals₀ n (arrival gains values (ins ^ h)))
+            (values-room : maxStates ≤ length values₀) (arrivals-room : maxStates ≤ length arrivals₀)
+            {ranks : List ℕ} (ranked : ranks ≡ tab maxOuts (rankBy (sheet .literals) (sheet .outputs)))
           where
-            -- values fit
-            pub plan-valued : Valued n values words
-            plan-valued =
-                rw (valued, counted)
-                (row-valued game n values₀ (omega (arith, most)) (plan-sized wide-cells wide-dropped) h (plan-words h far .0)
-                (plan-words h far .1))
+            sizes-of : SizedGame game n
+            sizes-of = plan-sized wide-cells wide-dropped
 
-            module _ {choices : List ℕ} (chose : choices ≡ vals.choices game n (literalsOf (sheet .literals) (sheet .outputs)) values
-                words choices₀) where
-              -- the choices are those over the horizon
-              by-horizon : choices ≡ choicesBy game n (decoded s sheet .literals) h values₀ choices₀
-              unfolding literalsOf
-              by-horizon =
-                  chose ∙ rw (valued, counted, layout-literals s sheet)
+            ready : Prepared n gains values words arrivals
+            ready = prepared arrivals₀ (rw counted arrived) (omega (arith, most))
 
-              same : SameGuard (decoded s sheet) h n game values₀ choices₀
-              same =
-                  stored-guard (decoded s sheet) (few (p .solution)) (sym (p .solution .start-kept)) h n game
-                  (stored (p .solution) gains bonuses ins outs ins-are outs-are earned-at matched-at)
-                  values₀ choices₀ (omega (arith, most)) (omega (arith, choices-room))
+            -- the outputs that are chosen, for all states
+            abbrev chosen-all : List ℕ
+            chosen-all = rankedChoices (arrivalGame cells dropped bonuses ins outs) n ranks arrivals words
 
-              -- chosen outputs reach none but the n states
-              pub plan-following : Following (stepsOf cells ins outs) choices n
-              plan-following =
-                  following-steps game choices n
-                  (subst (λ (c : List ℕ). Following game c n) (sym by-horizon)
-                  (choices-following game (decoded s sheet .literals) (valueRow game n values₀ h) (ins ^ h) n choices₀
-                  (omega (arith, choices-room)) (plan-sized wide-cells wide-dropped) (same .live)
-                  (omega (arith, some-state (decoded s sheet), p .solution .numbering .counted))
-                  (kept-start)))
-                where
-                  kept-start : isIn dropped 0 ≡ true
-                  kept-start =
-                      in-agree n dropped (droppedOf (decoded s sheet)) (p .solution .rounds) 0
-                      (omega (arith, some-state (decoded s sheet), p .solution .numbering .counted))
-                      ∙ sym (p .solution .start-kept)
+            others : List ℕ
+            others = zeros (n * ins)
 
-              -- and the states numbered, the table is the sheet's
-              pub plan-made : {order numbers : List ℕ} {count : ℕ} → n ≤ length order → n ≤ length numbers
-                  → Numbered n (guardStates (stepsOf cells ins outs) choices n) order numbers count
-                  → Planned (decoded s sheet) h (stepsOf cells ins outs) choices order numbers n count
-              unfolding guardCount numbered follows chosen vals.cellNext
-              plan-made {order} {numbers} {count} order-room numbers-room done =
-                  let states : guardStates (stepsOf cells ins outs) choices n ≡ guardOf (decoded s sheet) h =
-                  steps-only game choices n
-                  ∙ ap (λ (c : List ℕ). guardStates game c n) by-horizon ∙ same .states in
-                  let done′ : Numbered n (guardOf (decoded s sheet) h) order numbers count =
-                  subst (λ (L : List ℕ). Numbered n L order numbers count) states done in
-                  record {
-                    tabled = record {
-                      following = plan-following;
-                      order-room = order-room;
-                      numbers-room = numbers-room;
-                      numbered = done;
-                    };
-                    counted = done′ .counted;
-                    table =
-                        ap (λ (m : ℕ). tableBy (decoded s sheet .mode) (inputLines (decoded s sheet)) (decoded s sheet .outputs) h m
-                        (stepsOf cells ins outs) choices order numbers) (done′ .counted)
-                        ∙ code-table (decoded s sheet) (few (p .solution)) (sym (p .solution .start-kept)) h n game values₀ choices₀ same
-                        ins-are
-                        choices by-horizon order numbers (done′ .states)
-                        (λ k l has. done′ .entries k l ∙ entry-met (guardOf (decoded s sheet) h) k has)
-                        _ _ (λ j i hj hi. refl) (λ j i hj hi. refl);
-                  }
+            others-long : length others ≡ n * ins
+            unfolding others
+            others-long = length-replicate {A = ℕ} (n * ins) 0
+
+            -- they are those over the horizon
+            by-horizon : chosen-all ≡ choicesBy game n (decoded s sheet .literals) h values₀ others
+            unfolding literalsOf
+            by-horizon =
+                ranked-choices sizes-of ready (sheet .literals) (sheet .outputs) ranked others others-long
+                ∙ ap₂ (λ (v : List ℕ) (w : ℕ). vals.choices game n (literalsOf (sheet .literals) (sheet .outputs)) v w others) valued counted
+                ∙ ap (λ (l : List ℕ). vals.choices game n l (valueRow game n values₀ h) (ins ^ h) others) (layout-literals s sheet)
+
+            same : SameGuard (decoded s sheet) h n game values₀ others
+            same =
+                stored-guard (decoded s sheet) (few (p .solution)) (sym (p .solution .start-kept)) h n game
+                (stored (p .solution) gains bonuses ins outs ins-are outs-are earned-at matched-at)
+                values₀ others (omega (arith, most)) (omega (arith, others-long))
+
+            kept-start : isIn dropped 0 ≡ true
+            kept-start =
+                in-agree n dropped (droppedOf (decoded s sheet)) (p .solution .rounds) 0
+                (omega (arith, some-state (decoded s sheet), p .solution .numbering .counted))
+                ∙ sym (p .solution .start-kept)
+
+            -- chosen outputs reach none but the n states
+            following : Following (stepsOf cells ins outs) chosen-all n
+            following =
+                following-steps game chosen-all n
+                (subst (λ (c : List ℕ). Following game c n) (sym by-horizon)
+                (choices-following game (decoded s sheet .literals) (valueRow game n values₀ h) (ins ^ h) n others
+                (omega (arith, others-long)) sizes-of (same .live)
+                (omega (arith, some-state (decoded s sheet), p .solution .numbering .counted)) kept-start))
+
+            -- so outputs can be chosen while states are numbered
+            pub plan-choosing : Choosing (arrivalGame cells dropped bonuses ins outs) n ranks arrivals words
+            plan-choosing =
+                record {
+                  ready = λ k low.
+                      bare-ready sizes-of
+                      (arrivals-valued sizes-of ready values₀ h (omega (arith, most)) valued counted (plan-words h far .0)
+                      (plan-words h far .1)) low;
+                  following = following;
+                }
+
+            -- and the states numbered, the table is the sheet's
+            pub plan-made : {rows order numbers : List ℕ} {count : ℕ} → n ≤ length rows → n ≤ length order → n ≤ length numbers
+                → Guarded (stepsOf cells ins outs) chosen-all n rows order numbers count
+                → Planned (decoded s sheet) h (stepsOf cells ins outs) rows order numbers count
+            unfolding guardCount follows chosen vals.cellNext
+            plan-made {rows} {order} {numbers} {count} rows-room order-room numbers-room done =
+                let states : guardStates (stepsOf cells ins outs) chosen-all n ≡ guardOf (decoded s sheet) h =
+                steps-only game chosen-all n ∙ ap (λ (c : List ℕ). guardStates game c n) by-horizon ∙ same .states in
+                let done′ : Numbered n (guardOf (decoded s sheet) h) order numbers count =
+                subst (λ (L : List ℕ). Numbered n L order numbers count) states (done .numbered) in
+                record {
+                  tabled = tabled following done (counts-low .3) rows-room order-room numbers-room;
+                  counted = done′ .counted;
+                  table =
+                      table-chosen following done (counts-low .3) (decoded s sheet .mode) (inputLines (decoded s sheet))
+                      (decoded s sheet .outputs) h ins-are
+                      ∙ ap (λ (m : ℕ). guardTable (decoded s sheet .mode) (inputLines (decoded s sheet)) (decoded s sheet .outputs) h m
+                      (λ j. chosen game chosen-all (getD order j 0))
+                      (λ j i. getD numbers (follows game chosen-all (getD order j 0) i) 0 - 1)) (done′ .counted)
+                      ∙ code-table (decoded s sheet) (few (p .solution)) (sym (p .solution .start-kept)) h n game values₀ others same
+                      ins-are chosen-all by-horizon order numbers (done′ .states)
+                      (λ k l has. done′ .entries k l ∙ entry-met (guardOf (decoded s sheet) h) k has)
+                      _ _ (λ j i hj hi. refl) (λ j i hj hi. refl);
+                }

@@ -98,10 +98,9 @@ module _
             }
 
         -- and of the sizes that working out values relies on
-        pub sized : SheetOk d → cellsLength ≤ length cells → maxStates ≤ length dropped → maxStates ≤ length gains
-            → maxLetters ≤ length bonuses
+        pub sized : SheetOk d → cellsLength ≤ length cells → maxStates ≤ length dropped → maxLetters ≤ length bonuses
             → SizedGame (record { cells = cells; dropped = dropped; gains = gains; bonuses = bonuses; ins = ins; outs = outs }) n
-        sized ok wide-cells wide-dropped wide-gains wide-bonuses =
+        sized ok wide-cells wide-dropped wide-bonuses =
             let most : n ≤ maxStates = solution .numbering .most in
             let letters : ins * outs ≤ maxLetters = rw (is-inputs, is-outputs) (letters-most d (ok .head)) in
             let rows : n * (ins * outs) ≤ cellsLength = rw (is-inputs, is-outputs) (cells-most d (ok .head) n most) in
@@ -117,7 +116,6 @@ module _
               rows = omega arith;
               inside = steps .inside;
               dropped = omega arith;
-              gains = omega arith;
               gain = λ k h. rw (earned k h) (soft-most d ok (stateOf d k));
               bonuses = omega arith;
               bonus = λ l h. rw (matched l h) (match-most d ok (l % ins) (l / ins));

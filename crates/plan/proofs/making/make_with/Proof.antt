@@ -4,7 +4,6 @@ use Prim.Native.Nat.{_≤_}
 use native.Mathlib.Omega.{arith}
 use lib.ListN.{length}
 use Rattle.sheet.specs.declared.layout.Verdict.{Verdict}
-use Rattle.guard_rows.specs.Laws.Entered.{count-most}
 use Rattle.plan.specs.Model.GuardOfSheet.{ownHorizon, guardTableOf, statesOf}
 use Rattle.plan.specs.Model.Planned.{Room}
 use Rattle.plan.specs.Laws.Planned.{playable, own-horizon, horizon-in-bounds}
@@ -17,7 +16,7 @@ use Rattle.plan.proofs.making.make_with.Tie as tie
 
 -- the places that the needs look back to
 abbrev asked : tie.After-open-sheet-arg3 → tie.Start
-asked c = c .before .before .before .before .before .before .before .before .before .before .before .before .before .before .before
+asked c = c .before .before .before .before .before .before .before .before .before .before .before .before .before .before
 
 abbrev entry : tie.After-open-sheet → tie.Start
 entry c = asked (c .before)
@@ -28,14 +27,14 @@ judged c = c .before .before .before .before .before .before .before .before
 abbrev told : tie.After-pow22 → tie.After-enum-told
 told c = c .before .before .before
 
-abbrev called : tie.After-plan-arg10 → tie.After-pow22
-called c = c .before .before .before .before .before .before .before .before .before .before
+abbrev called : tie.After-plan-arg9 → tie.After-pow22
+called c = c .before .before .before .before .before .before .before .before .before
 
 abbrev counted : tie.After-plan → tie.After-pow22
 counted c = called (c .before)
 
-abbrev left : tie.After-slice-known21 → tie.After-plan
-left c = c .before .before .before .before .before .before .before .before .before .before .before .before .before .before
+abbrev left : tie.After-slice-known19 → tie.After-plan
+left c = c .before .before .before .before .before .before .before .before .before .before .before .before
 
 abbrev planned : tie.After-table-length → tie.After-plan
 planned c = left (c .before)
@@ -43,13 +42,13 @@ planned c = left (c .before)
 abbrev refused : tie.After-known-told → tie.After-open-sheet
 refused c = c .before .before .before .before .before .before .before .before .before
 
-abbrev wrote : tie.After-slice-known22 → tie.After-write
+abbrev wrote : tie.After-slice-known20 → tie.After-write
 wrote c = c .before .before
 
 abbrev room : tie.After-write-arg5 → tie.Else1
 room c = c .before .before .before .before .before
 
-abbrev fit : tie.After-slice-known22 → tie.Else1
+abbrev fit : tie.After-slice-known20 → tie.Else1
 fit c = room (wrote c .before)
 
 abbrev first : tie.After-plan → tie.After-open-sheet
@@ -75,8 +74,8 @@ ready c = subst (Says (judged c)) (c .enum-told .given .1) (judged c .open-sheet
 long : (c : tie.After-enum-told) →
     let a = entry (judged c) .args in
     let after = judged c .open-sheet .last .1 .1 in
-    Room (after .0) (after .1 .0) (after .1 .1 .0) (a .gains .now) (a .bonuses .now) (a .values .now) (a .next .now) (a .choices .now)
-    (a .order .now) (a .numbers .now)
+    Room (after .0) (after .1 .0) (after .1 .1 .0) (a .gains .now) (a .bonuses .now) (a .values .now) (a .arrivals .now) (a .order .now)
+    (a .numbers .now)
 long c =
     let w = entry (judged c) .pre (ready c .long) in
     let kept = judged c .open-sheet .kept .1 .1 in
@@ -87,8 +86,7 @@ long c =
       gains-long = w .gains-long;
       bonuses-long = w .bonuses-long;
       values-long = w .values-long;
-      next-long = w .next-long;
-      choices-long = w .choices-long;
+      arrivals-long = w .arrivals-long;
       order-long = w .order-long;
       numbers-long = w .numbers-long;
     }
@@ -115,8 +113,7 @@ plan-requires c κs = let at = called c in
 
 table-length-requires : tie.Need-table-length-requires
 table-length-requires c κs = let at = left c in
-    let t = at .plan .ensures .tabled in
-    (inputs-low (ready (told (counted at)) .fits), omega (arith, count-most t, t .following .states))
+    (inputs-low (ready (told (counted at)) .fits), at .plan .ensures .tabled .few)
 
 same-length : tie.Need-same-length
 same-length c = first (planned (c .before)) .open-sheet .kept .1 .1 .0
@@ -145,9 +142,6 @@ same-length-8 c = planned (c .before) .plan .kept .1 .1 .1 .1 .1 .1 .1 .1 .1 .1 
 same-length-9 : tie.Need-same-length-9
 same-length-9 c = planned (c .before) .plan .kept .1 .1 .1 .1 .1 .1 .1 .1 .1 .1 .1 .1 .1 .1 .0
 
-same-length-10 : tie.Need-same-length-10
-same-length-10 c = planned (c .before) .plan .kept .1 .1 .1 .1 .1 .1 .1 .1 .1 .1 .1 .1 .1 .1 .1 .0
-
 returns : tie.Need-returns
 returns c = let at = planned (c .before) in
     let r = ready (told (counted at)) in
@@ -165,51 +159,48 @@ write-requires c κs = let sized = room c .before in
       ),
     )
 
+same-length-10 : tie.Need-same-length-10
+same-length-10 c = refused c .open-sheet .kept .1 .1 .0
+
 same-length-11 : tie.Need-same-length-11
-same-length-11 c = refused c .open-sheet .kept .1 .1 .0
+same-length-11 c = refused c .open-sheet .kept .1 .1 .1 .0
 
 same-length-12 : tie.Need-same-length-12
-same-length-12 c = refused c .open-sheet .kept .1 .1 .1 .0
-
-same-length-13 : tie.Need-same-length-13
-same-length-13 c = refused c .open-sheet .kept .1 .1 .1 .1 .0
+same-length-12 c = refused c .open-sheet .kept .1 .1 .1 .1 .0
 
 returns-2 : tie.Need-returns-2
 returns-2 c = let at = refused c in subst (Says at) (c .before .verdict .given .1) (at .open-sheet .ensures .0) guardTableOf statesOf
     (entry at .args .result .now)
 
+same-length-13 : tie.Need-same-length-13
+same-length-13 c = wrote c .write .kept .0
+
 same-length-14 : tie.Need-same-length-14
-same-length-14 c = wrote c .write .kept .0
+same-length-14 c = first (planned (fit c .before)) .open-sheet .kept .1 .1 .0
 
 same-length-15 : tie.Need-same-length-15
-same-length-15 c = first (planned (fit c .before)) .open-sheet .kept .1 .1 .0
+same-length-15 c = first (planned (fit c .before)) .open-sheet .kept .1 .1 .1 .0
 
 same-length-16 : tie.Need-same-length-16
-same-length-16 c = first (planned (fit c .before)) .open-sheet .kept .1 .1 .1 .0
+same-length-16 c = first (planned (fit c .before)) .open-sheet .kept .1 .1 .1 .1 .0
 
 same-length-17 : tie.Need-same-length-17
-same-length-17 c = first (planned (fit c .before)) .open-sheet .kept .1 .1 .1 .1 .0
+same-length-17 c = planned (fit c .before) .plan .kept .1 .1 .1 .1 .1 .1 .1 .1 .1 .0
 
 same-length-18 : tie.Need-same-length-18
-same-length-18 c = planned (fit c .before) .plan .kept .1 .1 .1 .1 .1 .1 .1 .1 .1 .0
+same-length-18 c = planned (fit c .before) .plan .kept .1 .1 .1 .1 .1 .1 .1 .1 .1 .1 .0
 
 same-length-19 : tie.Need-same-length-19
-same-length-19 c = planned (fit c .before) .plan .kept .1 .1 .1 .1 .1 .1 .1 .1 .1 .1 .0
+same-length-19 c = planned (fit c .before) .plan .kept .1 .1 .1 .1 .1 .1 .1 .1 .1 .1 .1 .0
 
 same-length-20 : tie.Need-same-length-20
-same-length-20 c = planned (fit c .before) .plan .kept .1 .1 .1 .1 .1 .1 .1 .1 .1 .1 .1 .0
+same-length-20 c = planned (fit c .before) .plan .kept .1 .1 .1 .1 .1 .1 .1 .1 .1 .1 .1 .1 .0
 
 same-length-21 : tie.Need-same-length-21
-same-length-21 c = planned (fit c .before) .plan .kept .1 .1 .1 .1 .1 .1 .1 .1 .1 .1 .1 .1 .0
+same-length-21 c = planned (fit c .before) .plan .kept .1 .1 .1 .1 .1 .1 .1 .1 .1 .1 .1 .1 .1 .0
 
 same-length-22 : tie.Need-same-length-22
-same-length-22 c = planned (fit c .before) .plan .kept .1 .1 .1 .1 .1 .1 .1 .1 .1 .1 .1 .1 .1 .0
-
-same-length-23 : tie.Need-same-length-23
-same-length-23 c = planned (fit c .before) .plan .kept .1 .1 .1 .1 .1 .1 .1 .1 .1 .1 .1 .1 .1 .1 .0
-
-same-length-24 : tie.Need-same-length-24
-same-length-24 c = planned (fit c .before) .plan .kept .1 .1 .1 .1 .1 .1 .1 .1 .1 .1 .1 .1 .1 .1 .1 .0
+same-length-22 c = planned (fit c .before) .plan .kept .1 .1 .1 .1 .1 .1 .1 .1 .1 .1 .1 .1 .1 .1 .0
 
 returns-3 : tie.Need-returns-3
 returns-3 c = let at = planned (fit c .before) in
@@ -239,13 +230,13 @@ make-with-spec =
     same-length-7
     same-length-8
     same-length-9
-    same-length-10
     returns
     write-requires
+    same-length-10
     same-length-11
     same-length-12
-    same-length-13
     returns-2
+    same-length-13
     same-length-14
     same-length-15
     same-length-16
@@ -255,6 +246,4 @@ make-with-spec =
     same-length-20
     same-length-21
     same-length-22
-    same-length-23
-    same-length-24
     returns-3)
