@@ -5,7 +5,7 @@ use mathlib.Core.List.{List, [], _∷_}
 use Prim.Native.Nat.{ℕ, _≤_, _<_}
 use lib.ListN.{length, getD, take}
 use Rattle.records.specs.Meaning.Limits.{maxStates, maxLetters}
-use Rattle.records.specs.Meaning.Work.{Slice, bytes, pairs, eights, longEnough, askedBytes}
+use Rattle.records.specs.Meaning.Work.{Slice, pairs, eights, longEnough, askedBytes}
 use Rattle.guard_table.specs.Meaning.GuardTable.{tableLength, guardTable}
 use Rattle.sheet.specs.Meaning.Decoded.{Decoded, inputLines}
 use Rattle.product.specs.Meaning.Step.{inputsOf, advance, firstTuple}
@@ -16,11 +16,10 @@ use Rattle.solve.specs.Promises.OpeningWork.{openingWork, workMost}
 use Rattle.solve.specs.declared.made.Made.{Made}
 use Rattle.guard.specs.Meaning.Faithful.{Move, GuardStates, Faithful}
 use Rattle.plan.specs.Model.GuardOfSheet.{guardTableBy, statesBy, ownHorizon}
-use Rattle.plan.specs.Model.Planned.{choicesLength}
 
 -- ---- work memory
 
--- beside the opening's: gains, bonuses, values, next, choices, order, numbers
+-- beside the opening's: gains, bonuses, values, arrivals, order, numbers
 abbrev pub guardWork : List Slice
 guardWork =
     openingWork
@@ -28,7 +27,6 @@ guardWork =
     ∷ pairs maxLetters
     ∷ eights maxStates
     ∷ eights maxStates
-    ∷ bytes choicesLength
     ∷ pairs maxStates
     ∷ pairs maxStates
     ∷ [])
