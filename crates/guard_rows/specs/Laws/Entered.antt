@@ -68,15 +68,19 @@ module _ {g : Game} {choices rows order numbers : List ℕ} {n count : ℕ} (fol
     unfolding follows
     next-chosen j i hj hi = ap (cellNext g (getD order j 0) i) (row-chosen j i hj hi)
 
+    pub number-chosen : (j i : ℕ) → j < count → i < g .ins
+        → numbered g (getD rows j 0) numbers (getD order j 0) i ≡ getD numbers (follows g choices (getD order j 0) i) 0 - 1
+    unfolding numbered
+    number-chosen j i hj hi = ap (λ (k : ℕ). getD numbers k 0 - 1) (next-chosen j i hj hi)
+
     -- so the table is that of the chosen outputs
     pub table-chosen : (mode lines outs horizon : ℕ) → g .ins ≡ 2 ^ lines
         → tableBy mode lines outs horizon count g rows order numbers
         ≡ guardTable mode lines outs horizon count (λ j. chosen g choices (getD order j 0))
         (λ j i. getD numbers (follows g choices (getD order j 0) i) 0 - 1)
-    unfolding numbered
     table-chosen mode lines outs horizon e =
         table-ext mode lines outs horizon count _ _ _ _ (λ j i hj hi. row-chosen j i hj (omega arith))
-        (λ j i hj hi. ap (λ (k : ℕ). getD numbers k 0 - 1) (next-chosen j i hj (omega arith)))
+        (λ j i hj hi. number-chosen j i hj (omega arith))
 
     -- and its entries can be read
     module _ (rows-room : n ≤ length rows) (order-room : n ≤ length order) (numbers-room : n ≤ length numbers) where

@@ -6,7 +6,7 @@ use Prim.Native.Nat.{ℕ, _+_, _-_, _*_, _≤_, _<_}
 use lib.ListN.{length, getD}
 use Rattle.records.specs.Meaning.Limits.{maxStates, maxOuts}
 use Rattle.records.specs.Model.Digits.{digit}
-use Rattle.guard_table.specs.Meaning.GuardTable.{nextEnd, guardEntry, guardRow, guardTable}
+use Rattle.guard_table.specs.Meaning.GuardTable.{nextEnd, guardRow, guardTable}
 use Rattle.values.specs.Model.Values.{Game, cellNext}
 
 -- ---- an entry

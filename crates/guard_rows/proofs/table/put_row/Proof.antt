@@ -1,9 +1,7 @@
 -- `guard_rows::table::put_row`: the header and the entries of the inputs before i are stored, and `rest` has the digits from i on.
 -- Assumes nothing.
 use mathlib.Core.Path.{_≡_, refl, sym, ap, _∙_, subst}
-use mathlib.Core.List.{List}
 use Prim.Native.Nat.{ℕ, _-_, _/_, _%_, _^_, _≤_, _<_}
-use native.Mathlib.Nat.{mod-lt}
 use native.Mathlib.Omega.{arith}
 use lib.ListN.{length, getD}
 use lib.Pow.{pow-mono}
@@ -13,7 +11,7 @@ use Rattle.records.specs.Laws.Stores.{Blocks, no-block, same-blocks, more-block
 use Rattle.rounds.specs.Model.TableRounds.{cellAt}
 use Rattle.rounds.specs.Laws.CellPlaces.{cell-in-row}
 use Rattle.guard_table.specs.Meaning.GuardTable.{nextEnd, entryAt, guardEntry}
-use Rattle.guard_table.specs.Laws.GuardTable.{entry-inside, row-kept}
+use Rattle.guard_table.specs.Laws.GuardTable.{entry-inside}
 use Rattle.values.specs.Model.Values.{Game, cellNext}
 use Rattle.values.specs.Model.GuardNumbering.{stepsOf}
 use Rattle.guard_rows.specs.Model.Entered.{outputBy, nextBy, numbered}
