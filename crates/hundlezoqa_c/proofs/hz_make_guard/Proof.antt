@@ -5,13 +5,13 @@ use Rattle.hundlezoqa_c.proofs.hz_make_guard.Tie as tie
 
 -- the places that the needs look back to
 abbrev started : tie.After-report-arg → tie.Start
-started c = c .before .before .before .before .before .before .before .before .before .before .before .before .before .before .before .before .before .before .before .before .before .before .before .before .before .before .before .before .before .before .before .before .before .before .before .before .before .before .before .before .before .before .before .before .before .before .before .before
+started c = c .before .before .before .before .before .before .before .before .before .before .before .before .before .before .before .before .before .before .before .before .before .before .before .before .before .before .before .before .before .before .before .before .before .before .before .before .before .before .before .before .before .before .before .before
 
-abbrev told : tie.After-slice-known24 → tie.After-report
+abbrev told : tie.After-slice-known22 → tie.After-report
 told c = c .before .before
 
-abbrev called : tie.After-slice-known24 → tie.After-make
-called c = told c .before .before .before .before .before .before .before .before .before .before .before .before .before .before .before .before .before .before .before .before .before .before .before .before
+abbrev called : tie.After-slice-known22 → tie.After-make
+called c = told c .before .before .before .before .before .before .before .before .before .before .before .before .before .before .before .before .before .before .before .before .before .before
 
 make-requires : tie.Need-make-requires
 make-requires c κs = search needs
@@ -50,10 +50,7 @@ same-length-10 : tie.Need-same-length-10
 same-length-10 c = called c .make .kept .1 .1 .1 .1 .1 .1 .1 .1 .1 .1 .0
 
 same-length-11 : tie.Need-same-length-11
-same-length-11 c = called c .make .kept .1 .1 .1 .1 .1 .1 .1 .1 .1 .1 .1 .0
-
-same-length-12 : tie.Need-same-length-12
-same-length-12 c = told c .report .kept .1 .0
+same-length-11 c = told c .report .kept .1 .0
 
 returns : tie.Need-returns
 returns c = (
@@ -83,5 +80,4 @@ hz-make-guard-spec =
     same-length-9
     same-length-10
     same-length-11
-    same-length-12
     returns)

@@ -13,10 +13,10 @@ abbrev reported : tie.After-written → tie.After-outcome
 reported c = c .before .before .before
 
 abbrev made : tie.After-outcome → tie.After-make
-made c = c .before .before .before .before .before .before .before .before .before .before .before .before .before .before
+made c = c .before .before .before .before .before .before .before .before .before .before .before .before .before
 
 abbrev entered : tie.After-make → tie.After-shared-slice-known
-entered c = c .before .before .before .before .before .before .before .before .before .before .before .before .before
+entered c = c .before .before .before .before .before .before .before .before .before .before .before .before
 
 slice-aggregate-make : tie.Need-slice-aggregate-make
 slice-aggregate-make c = refl
@@ -47,9 +47,6 @@ slice-aggregate-make-9 c = refl
 
 slice-aggregate-make-10 : tie.Need-slice-aggregate-make-10
 slice-aggregate-make-10 c = refl
-
-slice-aggregate-make-11 : tie.Need-slice-aggregate-make-11
-slice-aggregate-make-11 c = refl
 
 make-requires : tie.Need-make-requires
 make-requires c κs = search needs
@@ -89,7 +86,6 @@ print-guard-spec =
     slice-aggregate-make-8
     slice-aggregate-make-9
     slice-aggregate-make-10
-    slice-aggregate-make-11
     make-requires
     slice-aggregate-outcome
     outcome-requires

@@ -7,7 +7,7 @@ use Rattle.notebook.proofs.makers.guard_of.Tie as tie
 
 -- the place that the promise looks back to
 abbrev made : tie.After-numbers2 → tie.After-make
-made c = c .before .before .before .before .before .before .before .before .before .before .before
+made c = c .before .before .before .before .before .before .before .before .before .before
 
 slice-aggregate-make : tie.Need-slice-aggregate-make
 slice-aggregate-make c = sym (zeros-length 2048)
@@ -39,9 +39,6 @@ slice-aggregate-make-9 c = sym (zeros-length _)
 slice-aggregate-make-10 : tie.Need-slice-aggregate-make-10
 slice-aggregate-make-10 c = sym (zeros-length _)
 
-slice-aggregate-make-11 : tie.Need-slice-aggregate-make-11
-slice-aggregate-make-11 c = sym (zeros-length _)
-
 make-requires : tie.Need-make-requires
 make-requires c κs = tt
 
@@ -64,6 +61,5 @@ guard-of-spec =
     slice-aggregate-make-8
     slice-aggregate-make-9
     slice-aggregate-make-10
-    slice-aggregate-make-11
     make-requires
     returns)
