@@ -12,6 +12,7 @@ ghost use mathlib.Core.Path.{_≡_};
 ghost use Prim.Native.Nat.{_<_, _≤_};
 ghost use Rattle.records.specs.Meaning.Limits.{maxInputs, maxOutputs};
 ghost use Rattle.guard_table.specs.Meaning.Loadable.{sizeOk, fieldsOk, tableHeadOk, entriesOk, rowOk, rowsOk, loadable};
+ghost use Rattle.guard_table.specs.Model.Entries.{entryPasses};
 ghost use Rattle.guard_table.specs.Model.Inside.{Sized};
 
 // Whether the count is in range, and the slice is as long as a table of so many states.
@@ -60,19 +61,36 @@ fn head_ok(t: &[u8]) -> bool
     false
 }
 
-// Whether every entry of a state's row is in range. From the last entry down: a loop up to a power of two is compiled with a
-// shift at each turn.
+// Whether a state's entry at an input is in range, if there is such an input.
+fn entry_passes(
+    t: &[u8],
+    inputs: u8,
+    outputs: u8,
+    count: usize,
+    place: usize,
+    input: usize,
+) -> bool
+    requires { ⌜ Sized (now t) inputs count × ((outputs ≤ maxOutputs) × (place < count)) ⌝ }
+    ensures { λ r. ⌜ r ≡ entryPasses (now (t .entry)) inputs outputs count place input ⌝ }
+{
+    if pow2(inputs) <= input {
+        return true;
+    }
+    entry_ok(entry_in(t, inputs, place, input), outputs, count)
+}
+
+// Whether every entry of a state's row is in range. The loop runs over as many inputs as there can be: since the number of turns is
+// fixed, the compiler writes them out.
 fn entries_ok(t: &[u8], inputs: u8, outputs: u8, count: usize, place: usize) -> bool
     requires { ⌜ Sized (now t) inputs count × ((outputs ≤ maxOutputs) × (place < count)) ⌝ }
     ensures { λ r. ⌜ r ≡ entriesOk (now (t .entry)) inputs outputs count place ⌝ }
 {
-    let mut left = pow2(inputs);
-    while 0 < left {
-        left -= 1;
-        let entry = entry_in(t, inputs, place, left);
-        if !entry_ok(entry, outputs, count) {
+    let mut input: usize = 0;
+    while input < Limits::INS {
+        if !entry_passes(t, inputs, outputs, count, place, input) {
             return false;
         }
+        input += 1;
     }
     true
 }
