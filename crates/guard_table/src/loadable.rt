@@ -62,14 +62,7 @@ fn head_ok(t: &[u8]) -> bool
 }
 
 // Whether a state's entry at an input is in range, if there is such an input.
-fn entry_passes(
-    t: &[u8],
-    inputs: u8,
-    outputs: u8,
-    count: usize,
-    place: usize,
-    input: usize,
-) -> bool
+fn entry_passes(t: &[u8], inputs: u8, outputs: u8, count: usize, place: usize, input: usize) -> bool
     requires { ⌜ Sized (now t) inputs count × ((outputs ≤ maxOutputs) × (place < count)) ⌝ }
     ensures { λ r. ⌜ r ≡ entryPasses (now (t .entry)) inputs outputs count place input ⌝ }
 {

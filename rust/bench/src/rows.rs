@@ -140,7 +140,12 @@ fn refused() -> Group {
 }
 
 fn one_hash() -> Group {
-    let rows = [("16 x 16", sheets::one_hash(16)), ("8 x 8", sheets::one_hash(8))];
+    // Lines 4 and 5 go out. Where line 0 moves a group, no two neighbouring letters lead alike.
+    let rows = [
+        ("8 x 8", sheets::one_hash(8, [4, 5])),
+        ("16 x 16", sheets::one_hash(16, [4, 5])),
+        ("16 x 16, by a line in", sheets::one_hash(16, [0, 4])),
+    ];
     Group::new("one hash", rows.map(named).into())
 }
 

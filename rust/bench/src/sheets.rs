@@ -198,10 +198,10 @@ fn choose(triples: &[[u8; GROUP]], count: usize, chosen: &mut Vec<[u8; GROUP]>) 
 
 /// 64 letters, and product states that all lie in one bucket of the library's: two groups of three
 /// monitors, each group in lock step through so many hidden states, moved by an output line.
-pub fn one_hash(hidden: usize) -> Vec<u8> {
+pub fn one_hash(hidden: usize, lines: [u8; 2]) -> Vec<u8> {
     let labels = labels(hidden);
     let mut sheet = Builder::new(0, 4, 2, 6);
-    for line in [4, 5] {
+    for line in lines {
         for place in 0..GROUP {
             let at = |state: u8| labels.iter().position(|label| label[place] == state);
             let next = |state: u8, letter: u8| match at(state) {
@@ -227,8 +227,8 @@ mod tests {
 
     #[test]
     fn one_hash_is_one_bucket() {
-        for hidden in [8, 16] {
-            let product = product(&one_hash(hidden));
+        for (hidden, lines) in [(8, [4, 5]), (16, [4, 5]), (16, [0, 4])] {
+            let product = product(&one_hash(hidden, lines));
             assert_eq!(product.count(), hidden * hidden);
             for state in 0..product.count() {
                 let places = product.tuple(state).iter().rev();
