@@ -2,7 +2,7 @@
 -- Assumes nothing.
 use mathlib.Core.Path.{_≡_}
 use mathlib.Core.List.{List, [], _∷_}
-use Prim.Native.Nat.{ℕ, _≤_, _<_}
+use Prim.Native.Nat.{ℕ, _*_, _≤_, _<_}
 use lib.ListN.{length, getD, take}
 use Rattle.records.specs.Meaning.Limits.{maxStates, maxLetters}
 use Rattle.records.specs.Meaning.Work.{Slice, pairs, eights, longEnough, askedBytes}
@@ -19,17 +19,13 @@ use Rattle.plan.specs.Model.GuardOfSheet.{guardTableBy, statesBy, ownHorizon}
 
 -- ---- work memory
 
--- beside the opening's: gains, bonuses, values, arrivals, order, numbers
+-- for n product states, beside the opening's: gains, bonuses, values, arrivals, order, numbers
+abbrev pub guardWorkFor : ℕ → List Slice
+guardWorkFor n = openingWork n (pairs n ∷ pairs maxLetters ∷ eights n ∷ eights n ∷ pairs n ∷ pairs n ∷ [])
+
+-- for as many as there may be
 abbrev pub guardWork : List Slice
-guardWork =
-    openingWork
-    (pairs maxStates
-    ∷ pairs maxLetters
-    ∷ eights maxStates
-    ∷ eights maxStates
-    ∷ pairs maxStates
-    ∷ pairs maxStates
-    ∷ [])
+guardWork = guardWorkFor maxStates
 
 -- ---- what the rows of a guard table are
 
@@ -64,6 +60,8 @@ pub record MakesOver (horizon : Decoded → ℕ) (s before lent : List ℕ) (r :
   pub faithful : madeNumber r ≡ 0 → (d : Decoded) → Accepted s d → Faithful d (horizon d) (take (madeLength r) after)
   -- the bytes of work memory that the constants ask for
   pub work-bytes : askedBytes guardWork ≤ workMost
+  -- and what they would ask for if there were twice as many states
+  pub work-doubled : askedBytes (guardWorkFor (2 * maxStates)) ≤ 2 * workMost
 
 -- the maker's: over the sheet's own
 abbrev pub MakesGuard : List ℕ → List ℕ → List ℕ → Made → List ℕ → Type 0

@@ -1,14 +1,14 @@
 -- The work memory that every maker asks for, since its opening needs it; docs/MEMORY.md says what each slice holds.
 -- Assumes nothing.
 use mathlib.Core.List.{List, _∷_}
-use Prim.Native.Nat.{ℕ}
+use Prim.Native.Nat.{ℕ, _*_}
+use Rattle.records.specs.Meaning.Limits.{maxStates, maxLetters}
 use Rattle.records.specs.Meaning.Work.{Slice, pairs, eights}
-use Rattle.product.specs.Model.ProductNumbering.{tuplesLength, cellsLength}
-use Rattle.states.specs.Model.Index.{linksLength}
+use Rattle.states.specs.Model.Index.{forksAt}
 
--- tuples, cells, and dropped, which is the tuples' index before; then what a maker asks for beside them
-abbrev pub openingWork : List Slice → List Slice
-openingWork more = eights tuplesLength ∷ pairs cellsLength ∷ pairs linksLength ∷ more
+-- for n product states: tuples, cells, and dropped, which is the tuples' index before; then what a maker asks for beside them
+abbrev pub openingWork : ℕ → List Slice → List Slice
+openingWork n more = eights n ∷ pairs (n * maxLetters) ∷ pairs (forksAt n) ∷ more
 
 -- together at most so many bytes (document 01, ground 10)
 abbrev pub workMost : ℕ

@@ -6,6 +6,7 @@ use mathlib.Core.List.{List, []}
 use Prim.Native.Nat.{ℕ, _+_, _*_, _^_, _≤_, _<_}
 use lib.ListN.{length, getD, take}
 use Rattle.records.specs.Meaning.Bits.{bitAt}
+use Rattle.records.specs.Meaning.Limits.{maxStates}
 use Rattle.records.specs.Meaning.Work.{Slice, longEnough, askedBytes}
 use Rattle.sheet.specs.Meaning.Decoded.{Decoded, inputLines}
 use Rattle.product.specs.Meaning.Step.{inputsOf, advance, firstTuple}
@@ -22,8 +23,12 @@ use Rattle.solve.specs.declared.made.Made.{Made}
 
 -- ---- work memory
 
+-- for n product states, and for as many as there may be
+abbrev pub supervisorWorkFor : ℕ → List Slice
+supervisorWorkFor n = openingWork n []
+
 abbrev pub supervisorWork : List Slice
-supervisorWork = openingWork []
+supervisorWork = supervisorWorkFor maxStates
 
 -- ---- demand 2, of a table's bytes
 
@@ -66,3 +71,5 @@ pub record MakesSupervisor (s before lent : List ℕ) (r : Made) (after : List �
   pub written : madeNumber r ≡ 0 → (d : Decoded) → Accepted s d → Means d (madeStates r) (take (madeLength r) after)
   -- the bytes of work memory that the constants ask for
   pub work-bytes : askedBytes supervisorWork ≤ workMost
+  -- and what they would ask for if there were twice as many states
+  pub work-doubled : askedBytes (supervisorWorkFor (2 * maxStates)) ≤ 2 * workMost
