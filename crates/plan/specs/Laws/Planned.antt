@@ -170,7 +170,8 @@ module _ {s : List ℕ} {sheet : Sheet} (fits : Fits s sheet) {n : ℕ} {tuples 
             unfolding literalsOf
             by-horizon =
                 ranked-choices sizes-of ready (sheet .literals) (sheet .outputs) ranked others others-long
-                ∙ ap₂ (λ (v : List ℕ) (w : ℕ). vals.choices game n (literalsOf (sheet .literals) (sheet .outputs)) v w others) valued counted
+                ∙ ap₂ (λ (v : List ℕ) (w : ℕ). vals.choices game n (literalsOf (sheet .literals) (sheet .outputs)) v w others)
+                valued counted
                 ∙ ap (λ (l : List ℕ). vals.choices game n l (valueRow game n values₀ h) (ins ^ h) others) (layout-literals s sheet)
 
             same : SameGuard (decoded s sheet) h n game values₀ others
