@@ -51,7 +51,8 @@ pub fn leads_to_kept(cells: &[u16], dropped: &[u16], at: usize) -> bool
     cell_leads(cells, dropped, 0, at)
 }
 
-// Whether every input of a state has an unbroken step to a state that was in at the start of a round.
+// Whether every input of a state has an unbroken step to a state that was in at the start of a round. The cells of one input stand
+// `ins` apart in the state's row.
 pub fn state_stays(
     cells: &[u16],
     dropped: &[u16],
@@ -65,17 +66,20 @@ pub fn state_stays(
     requires { ⌜ CellEntered (now dropped) n k ⌝ }
     ensures { λ r. ⌜ r ≡ stays (now (cells .entry)) (atStart round (now (dropped .entry))) ins outs k ⌝ }
 {
+    let letters = ins * outs;
+    let base = k * letters;
+    let end = base + letters;
     let mut i: usize = 0;
     'inputs: while i < ins {
-        let mut o: usize = 0;
+        let mut at = base + i;
         'search: loop {
-            if outs <= o {
+            if end <= at {
                 break 'inputs;
             }
-            if cell_leads(cells, dropped, round, cell_at(ins, outs, k, i, o)) {
+            if cell_leads(cells, dropped, round, at) {
                 break 'search;
             }
-            o += 1;
+            at += ins;
         }
         i += 1;
     }
