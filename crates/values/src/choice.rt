@@ -1,8 +1,6 @@
 // The choice of an output: the largest score, and among those the highest in the sheet's output order.
-use crate::values::score_of;
+use crate::values::offer_of;
 use records::limits::Limits;
-use rounds::cell_at;
-use rounds::leads_to_kept;
 ghost use mathlib.Core.Path.{_≡_};
 ghost use Prim.Native.Nat.{_<_};
 ghost use Rattle.values.specs.Model.Sizes.{Ready};
@@ -61,7 +59,7 @@ impl Leader {
     }
 }
 
-// The choice of a state at an input: outputs in turn, of those that may be given the one that leads.
+// The choice of a state at an input: outputs in turn, of those allowed the one that leads.
 // `ranks` holds the rank of each output, and `arrivals` what arriving in a state earns and is worth.
 pub fn choose_output(
     cells: &[u16],
@@ -77,19 +75,26 @@ pub fn choose_output(
 ) -> u8
     requires { ⌜ Ready (arrivalGame (now cells) (now dropped) (now bonuses) ins outs) (now arrivals) factor k ⌝ }
     requires { ⌜ i < ins ⌝ }
-    ensures { λ r. ⌜
-        r ≡ rankedChoice (arrivalGame (now (cells .entry)) (now (dropped .entry)) (now (bonuses .entry)) ins outs) ranks
+    ensures { λ r. ⌜ r ≡ rankedChoice (arrivalGame (now (cells .entry)) (now (dropped .entry)) (now (bonuses .entry)) ins outs) ranks
         (now (arrivals .entry)) factor k i ⌝ }
 {
     let mut leader = Leader::none();
     let mut o: usize = 0;
     while o < outs {
-        let at = cell_at(ins, outs, k, i, o);
-        if leads_to_kept(cells, dropped, at) {
-            let to = cells[at] as usize;
-            let score = score_of(bonuses, arrivals, factor, to, i + ins * o);
-            let ahead = leader.against(o, score, ranks[o]);
-            leader = ahead;
+        let offer = offer_of(
+            cells,
+            dropped,
+            bonuses,
+            ins,
+            outs,
+            arrivals,
+            factor,
+            k,
+            i,
+            o,
+        );
+        if offer.allowed {
+            leader = leader.against(o, offer.score, ranks[o]);
         }
         o += 1;
     }

@@ -16,7 +16,7 @@ ghost use Rattle.rounds.specs.Model.TableRounds.{cellAt};
 ghost use Rattle.rounds.specs.Laws.CellPlaces.{InRow};
 ghost use Rattle.values.specs.Model.Values.{SizedGame, worth, valueRow};
 ghost use Rattle.values.specs.Model.Sizes.{gameOf, Valued, Ready, bestOf};
-ghost use Rattle.values.specs.Model.Arrivals.{arrival, arrivalGame, Gained, scoreIn, Scored};
+ghost use Rattle.values.specs.Model.Arrivals.{arrival, arrivalGame, Gained, scoreIn, Scored, offerOf};
 
 // The state after a step.
 pub fn next_of(cells: &[u16], ins: usize, outs: usize, k: usize, i: usize, o: usize) -> usize
@@ -33,6 +33,46 @@ pub fn score_of(bonuses: &[u16], arrivals: &[u64], factor: u64, to: usize, lette
     ensures { λ r. ⌜ r ≡ scoreIn (now (bonuses .entry)) (now (arrivals .entry)) factor to letter ⌝ }
 {
     arrivals[to] + (bonuses[letter] as u64) * factor
+}
+
+// What an output offers: whether it is allowed, and then the score of its step.
+pub struct Offer {
+    pub allowed: bool,
+    pub score: u64,
+}
+
+// What an output offers in a state at an input; one that is not allowed scores 0.
+pub fn offer_of(
+    cells: &[u16],
+    dropped: &[u16],
+    bonuses: &[u16],
+    ins: usize,
+    outs: usize,
+    arrivals: &[u64],
+    factor: u64,
+    k: usize,
+    i: usize,
+    o: usize,
+) -> Offer
+    requires { ⌜ Ready (arrivalGame (now cells) (now dropped) (now bonuses) ins outs) (now arrivals) factor k ⌝ }
+    requires { ⌜ i < ins ⌝ }
+    requires { ⌜ o < outs ⌝ }
+    ensures { λ r. ⌜
+        r ≡ offerOf (arrivalGame (now (cells .entry)) (now (dropped .entry)) (now (bonuses .entry)) ins outs)
+        (now (arrivals .entry)) factor k i o ⌝ }
+{
+    let at = cell_at(ins, outs, k, i, o);
+    if !leads_to_kept(cells, dropped, at) {
+        return Offer {
+            allowed: false,
+            score: 0,
+        };
+    }
+    let to = cells[at] as usize;
+    Offer {
+        allowed: true,
+        score: score_of(bonuses, arrivals, factor, to, i + ins * o),
+    }
 }
 
 // The larger of two.
@@ -66,11 +106,19 @@ pub fn best_score(
     let mut best: u64 = 0;
     let mut o: usize = 0;
     while o < outs {
-        let at = cell_at(ins, outs, k, i, o);
-        if leads_to_kept(cells, dropped, at) {
-            let to = cells[at] as usize;
-            best = larger(best, score_of(bonuses, arrivals, factor, to, i + ins * o));
-        }
+        let offer = offer_of(
+            cells,
+            dropped,
+            bonuses,
+            ins,
+            outs,
+            arrivals,
+            factor,
+            k,
+            i,
+            o,
+        );
+        best = larger(best, offer.score);
         o += 1;
     }
     best

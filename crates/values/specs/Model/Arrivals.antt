@@ -2,6 +2,7 @@
 -- They are the values of a table whose states gain nothing; ranks of outputs are prepared too.
 -- Assumes nothing.
 use mathlib.Core.Path.{_≡_}
+use mathlib.Core.Bool.{cond}
 use mathlib.Core.List.{List, []}
 use Prim.Native.Nat.{ℕ, _+_, _*_, _/_, _%_, _^_, _≤_, _<_}
 use lib.ListN.{length, getD}
@@ -10,6 +11,7 @@ use Rattle.records.specs.Meaning.Lists.{tab}
 use Rattle.game.specs.Model.Choice.{choose}
 use Rattle.values.specs.Model.Values.{Game, mayGive, scoreOf}
 use Rattle.values.specs.Model.Sizes.{gameOf}
+use Rattle.values.specs.declared.values.Offer.{Offer}
 
 -- the number of state k
 unfoldable pub arrival : List ℕ → List ℕ → ℕ → ℕ → ℕ
@@ -40,6 +42,11 @@ pub record Scored (bonuses arrivals : List ℕ) (factor to letter : ℕ) : Type 
   pub arrivals-room : to < length arrivals
   pub most : getD arrivals to 0 ≤ 2 ^ 40
   pub factor-most : factor ≤ 2 ^ maxHorizon
+
+-- what output o offers in state k at input i: whether it is allowed, and then its score
+unfoldable pub offerOf : Game → List ℕ → ℕ → ℕ → ℕ → ℕ → Offer
+offerOf g arrivals factor k i o =
+    record { allowed = mayGive g k i o; score = cond (mayGive g k i o) (scoreOf g arrivals factor k i o) 0 }
 
 -- the choice of state k at input i by prepared ranks
 unfoldable pub rankedChoice : Game → List ℕ → List ℕ → ℕ → ℕ → ℕ → ℕ
