@@ -44,14 +44,14 @@ module _
         ap (λ (x : ℕ). earns g k i o * g .ins ^ p + x) (row-value memory room p (cellNext g k i o) (inside k i o h hi ho t)))))
 
     -- and with such values the choices are those of the largest score
-    pub chosen-choice : (literals values memory : List ℕ) → n * g .ins ≤ length memory → (p : ℕ)
+    pub chosen-choice : (literals values : List ℕ) (p : ℕ)
         → ((k : ℕ) → In k → getD values k 0 ≡ value ℕ (g .ins) (g .outs) (cellNext g) (mayGive g) (earns g) p k)
         → (k i : ℕ) → In k → i < g .ins
-        → chosen g (choices g n literals values (g .ins ^ p) memory) k i
+        → chosen g (choices g n literals values (g .ins ^ p)) k i
         ≡ choice ℕ (g .ins) (g .outs) (cellNext g) (mayGive g) (earns g) (rank literals) p k i
     unfolding choiceOf choice scoreOf score
-    chosen-choice literals values memory room p worths k i h hi =
-        chosen-is g literals values (g .ins ^ p) n memory room k i (low k h) hi
+    chosen-choice literals values p worths k i h hi =
+        chosen-is g literals values (g .ins ^ p) n k i (low k h) hi
         ∙ choose-cong _ _ _ _ (rank literals) (g .outs) (λ o ho. refl) (λ o ho t.
         ap (λ (x : ℕ). earns g k i o * g .ins ^ p + x) (worths (cellNext g k i o) (inside k i o h hi ho t)))
 
@@ -92,8 +92,7 @@ module _ (d : Decoded) (fits : stateCount d ≤ maxStates) where
     unfolding choicesOf sheetGame
     choice-is i hi =
         chosen-choice (sheetGame d) (stateCount d) (KeptNumber d) (λ j r. r .low) (λ j r. r .kept)
-        (λ j u o r. next-inside d fits j u o (r .low)) (d .literals) (valuesOf d h) (zeros (stateCount d * inputsOf d))
-        (omega (arith, length-replicate {A = ℕ} (stateCount d * inputsOf d) 0)) h (row-is h) k i q hi
+        (λ j u o r. next-inside d fits j u o (r .low)) (d .literals) (valuesOf d h) h (row-is h) k i q hi
         ∙ choice-named ℕ (List ℕ) (inputsOf d) (outputsOf d) (cellNext (sheetGame d)) (advance d) (mayGive (sheetGame d)) (mayAt d)
         (KeptNumber d)
         (stateOf d) (plays d fits) (earns (sheetGame d)) (reward d) (λ j u v r. earns-is d fits j u v (r .low)) (rank (d .literals)) h k i

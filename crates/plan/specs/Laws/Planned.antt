@@ -5,9 +5,8 @@ use mathlib.Core.Bool.{true}
 use mathlib.Core.List.{List}
 use Prim.Native.Nat.{ℕ, _-_, _*_, _/_, _%_, _^_, _≤_, _<_}
 use native.Mathlib.Omega.{arith}
-use lib.ListN.{length, getD, length-replicate}
+use lib.ListN.{length, getD}
 use Rattle.records.specs.Meaning.Lists.{tab}
-use Rattle.records.specs.Meaning.Numbers.{zeros}
 use Rattle.records.specs.Meaning.Limits.{maxStates, maxIns, maxOuts, maxLetters, maxHorizon, horizonOk}
 use Rattle.records.specs.Laws.Limits.{horizon-facts}
 use Rattle.records.specs.Model.Lists.{put}
@@ -158,27 +157,19 @@ module _ {s : List ℕ} {sheet : Sheet} (fits : Fits s sheet) {n : ℕ} {tuples 
             abbrev chosen-all : List ℕ
             chosen-all = rankedChoices (arrivalGame cells dropped bonuses ins outs) n ranks arrivals words
 
-            others : List ℕ
-            others = zeros (n * ins)
-
-            others-long : length others ≡ n * ins
-            unfolding others
-            others-long = length-replicate {A = ℕ} (n * ins) 0
-
             -- they are those over the horizon
-            by-horizon : chosen-all ≡ choicesBy game n (decoded s sheet .literals) h values₀ others
+            by-horizon : chosen-all ≡ choicesBy game n (decoded s sheet .literals) h values₀
             unfolding literalsOf
             by-horizon =
-                ranked-choices sizes-of ready (sheet .literals) (sheet .outputs) ranked others others-long
-                ∙ ap₂ (λ (v : List ℕ) (w : ℕ). vals.choices game n (literalsOf (sheet .literals) (sheet .outputs)) v w others)
-                valued counted
-                ∙ ap (λ (l : List ℕ). vals.choices game n l (valueRow game n values₀ h) (ins ^ h) others) (layout-literals s sheet)
+                ranked-choices sizes-of ready (sheet .literals) (sheet .outputs) ranked
+                ∙ ap₂ (λ (v : List ℕ) (w : ℕ). vals.choices game n (literalsOf (sheet .literals) (sheet .outputs)) v w) valued counted
+                ∙ ap (λ (l : List ℕ). vals.choices game n l (valueRow game n values₀ h) (ins ^ h)) (layout-literals s sheet)
 
-            same : SameGuard (decoded s sheet) h n game values₀ others
+            same : SameGuard (decoded s sheet) h n game values₀
             same =
                 stored-guard (decoded s sheet) (few (p .solution)) (sym (p .solution .start-kept)) h n game
                 (stored (p .solution) gains bonuses ins outs ins-are outs-are earned-at matched-at)
-                values₀ others (omega (arith, most)) (omega (arith, others-long))
+                values₀ (omega (arith, most))
 
             kept-start : isIn dropped 0 ≡ true
             kept-start =
@@ -191,8 +182,7 @@ module _ {s : List ℕ} {sheet : Sheet} (fits : Fits s sheet) {n : ℕ} {tuples 
             following =
                 following-steps game chosen-all n
                 (subst (λ (c : List ℕ). Following game c n) (sym by-horizon)
-                (choices-following game (decoded s sheet .literals) (valueRow game n values₀ h) (ins ^ h) n others
-                (omega (arith, others-long)) sizes-of (same .live)
+                (choices-following game (decoded s sheet .literals) (valueRow game n values₀ h) (ins ^ h) n sizes-of (same .live)
                 (omega (arith, some-state (decoded s sheet), p .solution .numbering .counted)) kept-start))
 
             -- so outputs can be chosen while states are numbered
@@ -225,7 +215,7 @@ module _ {s : List ℕ} {sheet : Sheet} (fits : Fits s sheet) {n : ℕ} {tuples 
                       ∙ ap (λ (m : ℕ). guardTable (decoded s sheet .mode) (inputLines (decoded s sheet)) (decoded s sheet .outputs) h m
                       (λ j. chosen game chosen-all (getD order j 0))
                       (λ j i. getD numbers (follows game chosen-all (getD order j 0) i) 0 - 1)) (done′ .counted)
-                      ∙ code-table (decoded s sheet) (few (p .solution)) (sym (p .solution .start-kept)) h n game values₀ others same
+                      ∙ code-table (decoded s sheet) (few (p .solution)) (sym (p .solution .start-kept)) h n game values₀ same
                       ins-are chosen-all by-horizon order numbers (done′ .states)
                       (λ k l has. done′ .entries k l ∙ entry-met (guardOf (decoded s sheet) h) k has)
                       _ _ (λ j i hj hi. refl) (λ j i hj hi. refl);

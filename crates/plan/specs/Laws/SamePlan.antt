@@ -4,9 +4,8 @@
 use mathlib.Core.Path.{_≡_, sym, ap, ap₂, _∙_, subst, subst₃}
 use mathlib.Core.Bool.{true, cond, not}
 use mathlib.Core.List.{List}
-use Prim.Native.Nat.{ℕ, zero, suc, _+_, _*_, _^_, _/_, _%_, _≤_, _<_}
+use Prim.Native.Nat.{ℕ, zero, suc, _+_, _*_, _^_, _≤_, _<_}
 use native.Mathlib.Omega.{arith}
-use native.Mathlib.Nat.{mod-lt, div-lt-iff-lt-mul, div-add-mod'}
 use lib.Dec.{eqb}
 use lib.ListN.{length, getD, length-replicate}
 use borrow.Author.Tests.{eqb-false, not-true}
@@ -19,7 +18,7 @@ use Rattle.sheet.specs.Meaning.Decoded.{Decoded}
 use Rattle.product.specs.Meaning.Step.{inputsOf, outputsOf}
 use Rattle.product.specs.Model.ProductNumbering.{stateCount}
 use Rattle.product.specs.Laws.ProductNumbering.{some-state}
-use Rattle.game.specs.Model.Numbering.{Reach, here, there, find}
+use Rattle.game.specs.Model.Numbering.{find}
 use Rattle.game.specs.Laws.Numbering.{explore-cong}
 use Rattle.game.specs.Laws.Reachable.{letter-low}
 use Rattle.game.specs.Laws.Choice.{choose-cong}
@@ -28,7 +27,7 @@ use Rattle.rounds.specs.Model.TableRounds.{Steps, cellAt, isIn, leadsIn}
 use Rattle.rounds.specs.Laws.CellPlaces.{cell-in}
 use Rattle.rounds.specs.Laws.SameRounds.{in-agree, leads-agree}
 use Rattle.solve.specs.Model.Steps.{droppedOf}
-use Rattle.solve.specs.Laws.Entries.{sheet-steps, some-letter}
+use Rattle.solve.specs.Laws.Entries.{sheet-steps}
 use Rattle.values.specs.Model.Rank.{rank}
 use Rattle.values.specs.Model.Values.{Game, mayGive, cellNext, earns, scoreOf, worth, valueRow, choiceOf, choices}
 use Rattle.values.specs.Model.GuardStates.{chosen, follows, guardStates, guardNumber}
@@ -126,35 +125,27 @@ pub record Stored (d : Decoded) (n : ℕ) (g : Game) : Type 0 where
   pub outs : g .outs ≡ outputsOf d
   pub holds : HoldsSteps (sheetGame d) (stateCount d) (g .cells) (g .dropped) (g .gains) (g .bonuses)
 
--- the choices of n states over a horizon, values being worked out in `memory` and choices put into `others`
-abbrev pub choicesBy : Game → ℕ → List ℕ → ℕ → List ℕ → List ℕ → List ℕ
-choicesBy g n literals h memory others = choices g n literals (valueRow g n memory h) (g .ins ^ h) others
+-- the choices of n states over a horizon, values being worked out in `memory`
+abbrev pub choicesBy : Game → ℕ → List ℕ → ℕ → List ℕ → List ℕ
+choicesBy g n literals h memory = choices g n literals (valueRow g n memory h) (g .ins ^ h)
 
 -- what is worked out over such a table is the sheet's
-pub record SameGuard (d : Decoded) (h n : ℕ) (g : Game) (memory others : List ℕ) : Type 0 where
-  pub values : (k : ℕ) → k < n → getD (valueRow g n memory h) k 0 ≡ getD (valuesOf d h) k 0
-  pub choices : (k i : ℕ) → k < n → i < g .ins
-      → chosen g (choicesBy g n (d .literals) h memory others) k i ≡ chosen (sheetGame d) (choicesOf d h) k i
-  pub entries : (at : ℕ) → at < n * g .ins
-      → getD (choicesBy g n (d .literals) h memory others) at 0 ≡ getD (choicesOf d h) at 0
+pub record SameGuard (d : Decoded) (h n : ℕ) (g : Game) (memory : List ℕ) : Type 0 where
   -- each input of a state that is in has an output that may be given
   pub live : (k i : ℕ) → k < n → isIn (g .dropped) k ≡ true → i < g .ins
       → (o : ℕ) × (o < g .outs) × (mayGive g k i o ≡ true)
-  -- chosen outputs meet none but the n states
-  pub closed : (k : ℕ)
-      → Reach ℕ (g .ins) (λ q i. true) (λ q i. follows g (choicesBy g n (d .literals) h memory others) q i) 0 k → k < n
-  pub states : guardStates g (choicesBy g n (d .literals) h memory others) n ≡ guardOf d h
+  pub states : guardStates g (choicesBy g n (d .literals) h memory) n ≡ guardOf d h
   pub out : (j i : ℕ) → j < guardCount d h → i < g .ins
-      → chosen g (choicesBy g n (d .literals) h memory others) (getD (guardOf d h) j 0) i ≡ outputOf d h j i
+      → chosen g (choicesBy g n (d .literals) h memory) (getD (guardOf d h) j 0) i ≡ outputOf d h j i
   pub among : (j i : ℕ) → j < guardCount d h → i < g .ins
-      → follows g (choicesBy g n (d .literals) h memory others) (getD (guardOf d h) j 0) i < n
+      → follows g (choicesBy g n (d .literals) h memory) (getD (guardOf d h) j 0) i < n
   pub next : (j i : ℕ) → j < guardCount d h → i < g .ins
-      → find ℕ eqb (follows g (choicesBy g n (d .literals) h memory others) (getD (guardOf d h) j 0) i) (guardOf d h) ≡ table.nextOf d h j i
+      → find ℕ eqb (follows g (choicesBy g n (d .literals) h memory) (getD (guardOf d h) j 0) i) (guardOf d h) ≡ table.nextOf d h j i
 
 module _ (d : Decoded) (fits : stateCount d ≤ maxStates) (start : isIn (droppedOf d) 0 ≡ true) (h : ℕ) where
   module _
       (cells dropped gains bonuses : List ℕ) (holds : HoldsSteps (sheetGame d) (stateCount d) cells dropped gains bonuses)
-      (memory others : List ℕ) (room : stateCount d ≤ length memory) (wide : stateCount d * inputsOf d ≤ length others)
+      (memory : List ℕ) (room : stateCount d ≤ length memory)
     where
       game-steps : Steps (sheetGame d .cells) (stateCount d) (sheetGame d .ins) (sheetGame d .outs)
       unfolding sheetGame
@@ -170,20 +161,18 @@ module _ (d : Decoded) (fits : stateCount d ≤ maxStates) (start : isIn (droppe
       same-chosen : (k i : ℕ) → k < stateCount d → i < inputsOf d
           → chosen (sheetGame d) (choicesOf d h) k i
           ≡ chosen (held (sheetGame d) cells dropped gains bonuses)
-          (choicesBy (held (sheetGame d) cells dropped gains bonuses) (stateCount d) (d .literals) h memory others) k i
+          (choicesBy (held (sheetGame d) cells dropped gains bonuses) (stateCount d) (d .literals) h memory) k i
       unfolding choicesOf sheetGame
       same-chosen k i hk hi =
-          chosen-is (sheetGame d) (d .literals) (valuesOf d h) (inputsOf d ^ h) (stateCount d) (zeros (stateCount d * inputsOf d))
-          (omega (arith, length-replicate {A = ℕ} (stateCount d * inputsOf d) 0)) k i hk hi
+          chosen-is (sheetGame d) (d .literals) (valuesOf d h) (inputsOf d ^ h) (stateCount d) k i hk hi
           ∙ choice-agree (sheetGame d) (stateCount d) game-steps cells dropped gains bonuses holds (valuesOf d h) _ same-values
           (inputsOf d ^ h) (d .literals) k i hk hi
-          ∙ sym (chosen-is (held (sheetGame d) cells dropped gains bonuses) (d .literals) _ (inputsOf d ^ h) (stateCount d) others wide
-          k i hk hi)
+          ∙ sym (chosen-is (held (sheetGame d) cells dropped gains bonuses) (d .literals) _ (inputsOf d ^ h) (stateCount d) k i hk hi)
 
       same-follows : (k i : ℕ) → KeptNumber d k → i < inputsOf d
           → follows (sheetGame d) (choicesOf d h) k i
           ≡ follows (held (sheetGame d) cells dropped gains bonuses)
-          (choicesBy (held (sheetGame d) cells dropped gains bonuses) (stateCount d) (d .literals) h memory others) k i
+          (choicesBy (held (sheetGame d) cells dropped gains bonuses) (stateCount d) (d .literals) h memory) k i
       unfolding follows sheetGame
       same-follows k i q hi =
           next-agree (sheetGame d) (stateCount d) game-steps cells dropped gains bonuses holds k i
@@ -191,23 +180,12 @@ module _ (d : Decoded) (fits : stateCount d ≤ maxStates) (start : isIn (droppe
           ∙ ap (cellNext (held (sheetGame d) cells dropped gains bonuses) k i) (same-chosen k i (q .low) hi)
 
       same-states : guardStates (held (sheetGame d) cells dropped gains bonuses)
-          (choicesBy (held (sheetGame d) cells dropped gains bonuses) (stateCount d) (d .literals) h memory others) (stateCount d)
+          (choicesBy (held (sheetGame d) cells dropped gains bonuses) (stateCount d) (d .literals) h memory) (stateCount d)
           ≡ guardOf d h
       unfolding guardOf guardStates sheetGame
       same-states =
           sym (explore-cong ℕ eqb (inputsOf d) (λ k i. true) (λ k i. follows (sheetGame d) (choicesOf d h) k i) _ 0
           (λ k r i hi. same-follows k i (met-inside d fits h start k r) hi) (stateCount d))
-
-      same-entries : (at : ℕ) → at < stateCount d * inputsOf d
-          → getD (choicesOf d h) at 0
-          ≡ getD (choicesBy (held (sheetGame d) cells dropped gains bonuses) (stateCount d) (d .literals) h memory others) at 0
-      unfolding chosen sheetGame
-      same-entries at l =
-          let some : 0 < inputsOf d = some-letter (stateCount d) (inputsOf d) at l in
-          subst (λ (x : ℕ). getD (choicesOf d h) x 0
-          ≡ getD (choicesBy (held (sheetGame d) cells dropped gains bonuses) (stateCount d) (d .literals) h memory others) x 0)
-          (div-add-mod' at (inputsOf d))
-          (same-chosen (at / inputsOf d) (at % inputsOf d) (div-lt-iff-lt-mul some .1 l) (mod-lt at some))
 
       same-live : (k i : ℕ) → k < stateCount d → isIn dropped k ≡ true → i < inputsOf d
           → (o : ℕ) × (o < outputsOf d) × (mayGive (held (sheetGame d) cells dropped gains bonuses) k i o ≡ true)
@@ -223,25 +201,11 @@ module _ (d : Decoded) (fits : stateCount d ≤ maxStates) (start : isIn (droppe
                 ∙ may-is d fits k i o hk hi (l .low) ∙ l .pass,
           )
 
-      same-closed : (k : ℕ)
-          → Reach ℕ (inputsOf d) (λ q i. true)
-          (λ q i. follows (held (sheetGame d) cells dropped gains bonuses)
-          (choicesBy (held (sheetGame d) cells dropped gains bonuses) (stateCount d) (d .literals) h memory others) q i) 0 k
-          → KeptNumber d k
-      same-closed k here = record { low = some-state d; kept = start }
-      same-closed k (there {s = q} i r hi t) =
-          let before : KeptNumber d q = same-closed q r in
-          subst (KeptNumber d) (same-follows q i before hi) (follows-inside d fits h q i before hi)
-
-      same-guard : SameGuard d h (stateCount d) (held (sheetGame d) cells dropped gains bonuses) memory others
+      same-guard : SameGuard d h (stateCount d) (held (sheetGame d) cells dropped gains bonuses) memory
       unfolding sheetGame outputOf table.nextOf guardNumber guardOf
       same-guard =
           record {
-            values = λ k hk. sym (same-values k hk);
-            choices = λ k i hk hi. sym (same-chosen k i hk hi);
-            entries = λ at l. sym (same-entries at l);
             live = same-live;
-            closed = λ k r. same-closed k r .low;
             states = same-states;
             out = λ j i hj hi. sym (same-chosen (getD (guardOf d h) j 0) i (guard-inside d fits h start j hj .low) hi);
             among = λ j i hj hi.
@@ -254,12 +218,11 @@ module _ (d : Decoded) (fits : stateCount d ≤ maxStates) (start : isIn (droppe
           }
 
   -- for every such table, and whatever else work memory holds
-  pub stored-guard : (n : ℕ) (g : Game) → Stored d n g → (memory others : List ℕ) → n ≤ length memory
-      → n * g .ins ≤ length others → SameGuard d h n g memory others
+  pub stored-guard : (n : ℕ) (g : Game) → Stored d n g → (memory : List ℕ) → n ≤ length memory → SameGuard d h n g memory
   unfolding sheetGame
-  stored-guard n g s memory others =
-      subst₃ (λ (m a b : ℕ). m ≤ length memory → m * a ≤ length others
+  stored-guard n g s memory =
+      subst₃ (λ (m a b : ℕ). m ≤ length memory
       → SameGuard d h m
-      (record { cells = g .cells; dropped = g .dropped; gains = g .gains; bonuses = g .bonuses; ins = a; outs = b }) memory others)
+      (record { cells = g .cells; dropped = g .dropped; gains = g .gains; bonuses = g .bonuses; ins = a; outs = b }) memory)
       (sym (s .counted)) (sym (s .ins)) (sym (s .outs))
-      (same-guard (g .cells) (g .dropped) (g .gains) (g .bonuses) (s .holds) memory others)
+      (same-guard (g .cells) (g .dropped) (g .gains) (g .bonuses) (s .holds) memory)

@@ -124,9 +124,9 @@ module _
 -- ---- the table, by the code's numbering
 
 module _
-    (d : Decoded) (fits : stateCount d ≤ maxStates) (start : isIn (droppedOf d) 0 ≡ true) (h n : ℕ) (g : Game) (memory others : List ℕ)
-    (same : SameGuard d h n g memory others) (is-inputs : g .ins ≡ inputsOf d)
-    (choices : List ℕ) (is-choices : choices ≡ choicesBy g n (d .literals) h memory others)
+    (d : Decoded) (fits : stateCount d ≤ maxStates) (start : isIn (droppedOf d) 0 ≡ true) (h n : ℕ) (g : Game) (memory : List ℕ)
+    (same : SameGuard d h n g memory) (is-inputs : g .ins ≡ inputsOf d)
+    (choices : List ℕ) (is-choices : choices ≡ choicesBy g n (d .literals) h memory)
     (order numbers : List ℕ) (ordered : (j : ℕ) → j < guardCount d h → getD order j 0 ≡ getD (guardOf d h) j 0)
     (numbered : (k : ℕ) → k < n → find ℕ eqb k (guardOf d h) < guardCount d h → getD numbers k 0 ≡ find ℕ eqb k (guardOf d h) + 1)
   where
@@ -137,7 +137,7 @@ module _
         ap₂ (λ (c : List ℕ) (k : ℕ). chosen g c k i) is-choices (ordered j hj) ∙ same .out j i hj low
 
     follows-at : (j i : ℕ) → j < guardCount d h
-        → follows g choices (getD order j 0) i ≡ follows g (choicesBy g n (d .literals) h memory others) (getD (guardOf d h) j 0) i
+        → follows g choices (getD order j 0) i ≡ follows g (choicesBy g n (d .literals) h memory) (getD (guardOf d h) j 0) i
     follows-at j i hj = ap₂ (λ (c : List ℕ) (k : ℕ). follows g c k i) is-choices (ordered j hj)
 
     -- its next state, by the number that stands for the product state after it

@@ -12,7 +12,7 @@ use Rattle.records.specs.Meaning.Limits.{maxOuts, maxHorizon}
 use Rattle.records.specs.Meaning.Lists.{tab}
 use Rattle.records.specs.Model.Lists.{put}
 use Rattle.records.specs.Laws.Bounded.{sum-cong, top-cong}
-use Rattle.records.specs.Laws.Lists.{tab-ext, getD-tab, put-tab, length-put, getD-put-front}
+use Rattle.records.specs.Laws.Lists.{tab-ext, getD-tab, length-put, getD-put-front}
 use Rattle.rounds.specs.Model.TableRounds.{isIn}
 use Rattle.game.specs.Model.Choice.{before, against, leader, choose}
 use Rattle.game.specs.Laws.Choice.{choose-cong}
@@ -131,10 +131,8 @@ module _ {g : Game} {n : ℕ} (s : SizedGame g n) where
           ∙ choose-cong (mayGive g k i) (mayGive g k i) _ _ (rank (literalsOf literals count)) (g .outs) (λ o h. refl)
           (λ o ho may. arrival-score hk hi ho may)
 
-      -- as one list, over memory of just its length
-      pub ranked-choices : (memory : List ℕ) → length memory ≡ n * g .ins
-          → rankedChoices (bare g) n ranks arrivals factor ≡ choices g n (literalsOf literals count) values factor memory
+      -- as one list
+      pub ranked-choices : rankedChoices (bare g) n ranks arrivals factor ≡ choices g n (literalsOf literals count) values factor
       unfolding rankedChoices choices
-      ranked-choices memory e =
+      ranked-choices =
           tab-ext (n * g .ins) _ _ (λ at h. ranked-choice _ _ (div-lt-iff-lt-mul (s .inputs-least) .1 h) (mod-lt _ (s .inputs-least)))
-          ∙ sym (put-tab memory (n * g .ins) _ e)

@@ -8,8 +8,8 @@ use mathlib.Core.Option.{Option, none, some, Option·getD}
 use Prim.Native.Nat.{ℕ, zero, suc, _+_, _-_, _*_, _/_, _%_, _≤_, _<_}
 use native.Mathlib.Omega.{arith}
 use lib.Arith.{digits-lt, digits-div, digits-mod}
-use lib.ListN.{length, getD}
-use Rattle.records.specs.Laws.Lists.{length-put, getD-put-front}
+use lib.ListN.{getD}
+use Rattle.records.specs.Laws.Lists.{length-tab, getD-tab}
 use Rattle.rounds.specs.Model.TableRounds.{isIn}
 use Rattle.game.specs.Model.Choice.{Leads, before, against, leader, choose}
 use Rattle.game.specs.Laws.Choice.{choose-leads}
@@ -50,15 +50,15 @@ module _ (g : Game) (literals values : List ℕ) (factor : ℕ) where
 
   -- ---- the choices of n states
 
-  module _ (n : ℕ) (memory : List ℕ) (room : n * g .ins ≤ length memory) where
+  module _ (n : ℕ) where
     pub choices-at : (at : ℕ) → at < n * g .ins
-        → getD (choices g n literals values factor memory) at 0
+        → getD (choices g n literals values factor) at 0
         ≡ choiceOf g literals values factor (at / g .ins) (at % g .ins)
     unfolding choices
-    choices-at at h = getD-put-front memory (n * g .ins) _ at 0 h (omega arith)
+    choices-at at h = getD-tab (n * g .ins) _ at 0 h
 
     pub chosen-is : (k i : ℕ) → k < n → i < g .ins
-        → chosen g (choices g n literals values factor memory) k i ≡ choiceOf g literals values factor k i
+        → chosen g (choices g n literals values factor) k i ≡ choiceOf g literals values factor k i
     unfolding chosen
     chosen-is k i hk hi =
         choices-at (k * g .ins + i) (digits-lt hk hi) ∙ rw (digits-div k hi, digits-mod k hi)
@@ -69,26 +69,26 @@ module _ (g : Game) (literals values : List ℕ) (factor : ℕ) where
       where
         pub chosen-leads : (k i : ℕ) → k < n → isIn (g .dropped) k ≡ true → i < g .ins
             → Leads (g .outs) (mayGive g k i) (scoreOf g values factor k i) (rank literals)
-            (chosen g (choices g n literals values factor memory) k i)
+            (chosen g (choices g n literals values factor) k i)
         chosen-leads k i hk kept hi =
             let x = live k i hk kept hi in rw (chosen-is k i hk hi) (choice-leads k i (x .0) (x .1) (x .2))
 
         pub choices-stay : (k i : ℕ) → k < n → isIn (g .dropped) k ≡ true → i < g .ins
-            → (follows g (choices g n literals values factor memory) k i < n)
-            × (isIn (g .dropped) (follows g (choices g n literals values factor memory) k i) ≡ true)
+            → (follows g (choices g n literals values factor) k i < n)
+            × (isIn (g .dropped) (follows g (choices g n literals values factor) k i) ≡ true)
         unfolding follows
         choices-stay k i hk kept hi =
             let l = chosen-leads k i hk kept hi in
             (next-low sized hk hi (l .low) (l .pass), next-kept sized k i _ (l .pass))
 
         -- so a guard made of them needs no other state
-        pub choices-following : 0 < n → isIn (g .dropped) 0 ≡ true → Following g (choices g n literals values factor memory) n
+        pub choices-following : 0 < n → isIn (g .dropped) 0 ≡ true → Following g (choices g n literals values factor) n
         unfolding choices
         choices-following states start =
             record {
               states = sized .states;
               steps = steps-of sized;
-              chosen-room = rw length-put room;
+              chosen-room = rw length-tab (omega arith);
               output = λ at h. rw (choices-at at h) (choice-low _ _ (sized .outputs-least));
-              closed = λ k r. kept-closed g (choices g n literals values factor memory) n states start choices-stay k r .0;
+              closed = λ k r. kept-closed g (choices g n literals values factor) n states start choices-stay k r .0;
             }

@@ -9,6 +9,7 @@ use Prim.Native.Nat.{ℕ, zero, suc, _+_, _*_, _/_, _%_, _^_, _≤_, _<_}
 use lib.ListN.{length, getD}
 use Rattle.records.specs.Meaning.Limits.{maxStates, maxIns, maxOuts}
 use Rattle.records.specs.Meaning.Bounded.{sum}
+use Rattle.records.specs.Meaning.Lists.{tab}
 use Rattle.records.specs.Model.Bounded.{top}
 use Rattle.records.specs.Model.Lists.{put}
 use Rattle.records.specs.Model.Cells.{isBroken}
@@ -56,9 +57,9 @@ unfoldable pub choiceOf : Game → List ℕ → List ℕ → ℕ → ℕ → ℕ
 choiceOf g literals values factor k i = choose (g .outs) (mayGive g k i) (scoreOf g values factor k i) (rank literals)
 
 -- the choices of n states, one for each state and input
-unfoldable pub choices : Game → ℕ → List ℕ → List ℕ → ℕ → List ℕ → List ℕ
-choices g n literals values factor memory =
-    put memory (n * g .ins) (λ at. choiceOf g literals values factor (at / g .ins) (at % g .ins))
+unfoldable pub choices : Game → ℕ → List ℕ → List ℕ → ℕ → List ℕ
+choices g n literals values factor =
+    tab (n * g .ins) (λ at. choiceOf g literals values factor (at / g .ins) (at % g .ins))
 
 -- the sizes and bounds that the code relies on
 pub record SizedGame (g : Game) (n : ℕ) : Type 0 where
