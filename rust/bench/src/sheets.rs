@@ -2,88 +2,63 @@
 //!
 //! Where a counter isn't the point of a sheet it makes the sheet as large as it shall be.
 
-use conformance::generate::record;
+use guard::sheet::Sheet;
 
-const HARD: u8 = 0;
-const SOFT: u8 = 1;
-const LIMIT: u8 = 2;
-
-/// A sheet by its parts.
-struct Builder {
-    lines_in: u8,
-    outputs: u8,
-    bytes: Vec<u8>,
+/// The parts that several sheets have.
+trait Parts {
+    /// A soft monitor that a line moves on, wrapping round, and that likes its start.
+    fn counter(self, states: u8, line: u8) -> Self;
+    /// Such a monitor that is moved on where the line is on (1) or off (0).
+    fn counter_at(self, states: u8, line: u8, level: u8) -> Self;
+    /// A hard monitor: the output line is never on twice running.
+    fn never_twice(self, output: u8) -> Self;
 }
 
-impl Builder {
-    /// A head, with the output lines preferred on in their order.
-    fn new(mode: u8, lines_in: u8, outputs: u8, horizon: u8) -> Builder {
-        let mut body = vec![mode, lines_in, outputs, horizon, mode];
-        body.extend(0..outputs);
-        Builder { lines_in, outputs, bytes: record(1, &body) }
-    }
-
-    /// A monitor, state 0 its start: whether a state accepts, and where a letter leads from it.
-    fn monitor(
-        mut self,
-        role: u8,
-        weight: u8,
-        states: u8,
-        accepts: impl Fn(u8) -> bool,
-        next: impl Fn(u8, u8) -> u8,
-    ) -> Builder {
-        let letters = if role == LIMIT { 4 } else { 1 << (self.lines_in + self.outputs) };
-        let mut body = vec![role, weight, states, 0];
-        body.extend((0..states).map(|state| u8::from(accepts(state))));
-        for state in 0..states {
-            body.extend((0..letters).map(|letter| next(state, letter)));
-        }
-        self.bytes.extend(record(2, &body));
-        self
-    }
-
-    /// A soft monitor that a line moves on, wrapping round, and that likes its start.
-    fn counter(self, states: u8, line: u8) -> Builder {
+impl Parts for Sheet {
+    fn counter(self, states: u8, line: u8) -> Sheet {
         self.counter_at(states, line, 1)
     }
 
-    /// Such a monitor that is moved on where the line is on (1) or off (0).
-    fn counter_at(self, states: u8, line: u8, level: u8) -> Builder {
+    fn counter_at(self, states: u8, line: u8, level: u8) -> Sheet {
         let next =
             move |state, letter: u8| (state + u8::from(letter >> line & 1 == level)) % states;
-        self.monitor(SOFT, 1 + line, states, |state| state == 0, next)
+        self.soft(1 + line, states, |state| state == 0, next)
     }
 
-    /// A hard monitor: the output line is never on twice running.
-    fn never_twice(self, output: u8) -> Builder {
+    fn never_twice(self, output: u8) -> Sheet {
         let line = self.lines_in + output;
         let next = move |state: u8, letter: u8| match letter >> line & 1 {
             1 => (state + 1).min(2),
             _ => state / 2 * 2,
         };
-        self.monitor(HARD, 0, 3, |state| state < 2, next)
+        self.hard(3, |state| state < 2, next)
     }
+}
+
+/// A controller with lines in and out.
+fn controller(lines_in: u8, outputs: u8, horizon: u8) -> Sheet {
+    Sheet::controller(lines_in, outputs).horizon(horizon)
 }
 
 /// Sheet A of the notebook.
 pub fn small() -> Vec<u8> {
     let equal = |_, letter: u8| u8::from(letter == 0 || letter == 3);
-    let sheet = Builder::new(0, 1, 1, 1).never_twice(0);
-    sheet.monitor(SOFT, 3, 2, |state| state == 1, equal).bytes
+    let sheet = controller(1, 1, 1).never_twice(0);
+    sheet.soft(3, 2, |state| state == 1, equal).to_bytes()
 }
 
 /// 60 product states, two lines each way.
 pub fn middle() -> Vec<u8> {
-    Builder::new(0, 2, 2, 4).never_twice(0).counter(5, 3).counter(6, 0).bytes
+    controller(2, 2, 4).never_twice(0).counter(5, 3).counter(6, 0).to_bytes()
 }
 
 /// Two counters with as many states as their product: moved by the first two output lines, or by
 /// the one that there is, on or off.
 pub fn counters((lines_in, outputs): (u8, u8), horizon: u8, (first, second): (u8, u8)) -> Vec<u8> {
-    let sheet = Builder::new(0, lines_in, outputs, horizon).counter(first, lines_in);
+    let sheet = controller(lines_in, outputs, horizon).counter(first, lines_in);
     match outputs {
-        1 => sheet.counter_at(second, lines_in, 0).bytes,
-        _ => sheet.counter(second, lines_in + 1).bytes,
+        1 => sheet.counter_at(second, lines_in, 0).to_bytes(),
+        _ => sheet.counter(second, lines_in + 1).to_bytes(),
     }
 }
 
@@ -95,7 +70,7 @@ pub fn counters_of(lines: (u8, u8), horizon: u8, states: usize) -> Vec<u8> {
 
 /// Six counters, each moved by a line of its own: 64 new states from the first one alone.
 pub fn six_counters() -> Vec<u8> {
-    (0..6).fold(Builder::new(0, 4, 2, 6), |sheet, line| sheet.counter(32, line)).bytes
+    (0..6).fold(controller(4, 2, 6), |sheet, line| sheet.counter(32, line)).to_bytes()
 }
 
 /// The bytes of a file of `sheets/`: hexadecimal text, with comments from # on.
@@ -107,8 +82,8 @@ pub fn from_text(text: &str) -> Vec<u8> {
 
 /// 256 product states of six monitors, four lines in and two out.
 pub fn six_monitors() -> Vec<u8> {
-    let sheet = Builder::new(0, 4, 2, 6).counter(4, 0).counter(4, 1).counter(2, 2).counter(2, 3);
-    sheet.never_twice(0).never_twice(1).bytes
+    let sheet = controller(4, 2, 6).counter(4, 0).counter(4, 1).counter(2, 2).counter(2, 3);
+    sheet.never_twice(0).never_twice(1).to_bytes()
 }
 
 /// The product states of a shield with one hard monitor, by the counter's states: as many times so
@@ -132,14 +107,14 @@ pub fn shield_with(
     in_a_row: u8,
     counter: u8,
 ) -> Vec<u8> {
-    let head = Builder::new(1, site_lines, outputs, horizon);
-    let sheet = (0..copies).fold(head, Builder::never_twice);
+    let head = Sheet::shield(site_lines, outputs).horizon(horizon).match_weight(1);
+    let sheet = (0..copies).fold(head, Sheet::never_twice);
     let next = |state: u8, letter: u8| match letter & 2 {
         2 => (state + 1).min(in_a_row + 1),
         _ => 0,
     };
-    let sheet = sheet.monitor(LIMIT, 0, in_a_row + 2, |state| state <= in_a_row, next);
-    sheet.counter(counter, 0).bytes
+    let sheet = sheet.limit(in_a_row + 2, |state| state <= in_a_row, next);
+    sheet.counter(counter, 0).to_bytes()
 }
 
 /// Some 240 rounds. Output 0 on spends one of the first monitor's states and refills the second;
@@ -157,8 +132,8 @@ pub fn chain() -> Vec<u8> {
         1 if state < 8 => 0,
         _ => (state + 1).min(8),
     };
-    let sheet = Builder::new(0, 4, 2, 6).monitor(HARD, 0, 32, |state| state != SPENT, budget);
-    sheet.monitor(HARD, 0, 9, |state| state != 8, refilled).bytes
+    let sheet = controller(4, 2, 6).hard(32, |state| state != SPENT, budget);
+    sheet.hard(9, |state| state != 8, refilled).to_bytes()
 }
 
 /// The library's number of buckets: a tuple lies in that of its packed number (the sum over places
@@ -200,7 +175,7 @@ fn choose(triples: &[[u8; GROUP]], count: usize, chosen: &mut Vec<[u8; GROUP]>) 
 /// monitors, each group in lock step through so many hidden states, moved by an output line.
 pub fn one_hash(hidden: usize, lines: [u8; 2]) -> Vec<u8> {
     let labels = labels(hidden);
-    let mut sheet = Builder::new(0, 4, 2, 6);
+    let mut sheet = controller(4, 2, 6);
     for line in lines {
         for place in 0..GROUP {
             let at = |state: u8| labels.iter().position(|label| label[place] == state);
@@ -210,10 +185,10 @@ pub fn one_hash(hidden: usize, lines: [u8; 2]) -> Vec<u8> {
                 }
                 _ => state,
             };
-            sheet = sheet.monitor(SOFT, 1 + place as u8, 32, |state| state == 0, next);
+            sheet = sheet.soft(1 + place as u8, 32, |state| state == 0, next);
         }
     }
-    sheet.bytes
+    sheet.to_bytes()
 }
 
 #[cfg(test)]

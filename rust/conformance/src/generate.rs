@@ -1,27 +1,15 @@
 //! Sheets, tables and boards for the property tests: sound ones of every shape, and damaged ones.
 
+pub use guard::sheet::record;
+use guard::sheet::{Literal, Mode, Monitor, Role, Sheet};
 use reference::{Board, STATES_MOST, STEPS_MOST};
 
 use crate::Random;
 
-const CONTROLLER: u8 = 0;
-const SHIELD: u8 = 1;
-const HARD: u8 = 0;
-const SOFT: u8 = 1;
-const LIMIT: u8 = 2;
-
-/// A record of any kind.
-pub fn record(kind: u16, body: &[u8]) -> Vec<u8> {
-    let mut bytes = (body.len() as u16).to_le_bytes().to_vec();
-    bytes.extend(kind.to_le_bytes());
-    bytes.extend(body);
-    bytes
-}
-
 /// The mode and lines of a sheet's head.
 #[derive(Clone, Copy, Debug, PartialEq, Eq)]
 pub struct Shape {
-    pub mode: u8,
+    pub mode: Mode,
     pub lines_in: u8,
     pub outputs: u8,
 }
@@ -33,19 +21,27 @@ impl Shape {
         for outputs in 1..=3 {
             for lines_in in 0..=4 {
                 if lines_in + outputs <= 6 {
-                    shapes.push(Shape { mode: CONTROLLER, lines_in, outputs });
+                    shapes.push(Shape { mode: Mode::Controller, lines_in, outputs });
                 }
                 if lines_in + outputs <= 4 && lines_in + 2 * outputs <= 6 {
-                    shapes.push(Shape { mode: SHIELD, lines_in, outputs });
+                    shapes.push(Shape { mode: Mode::Shield, lines_in, outputs });
                 }
             }
         }
         shapes
     }
 
+    /// A sheet of this shape without monitors.
+    fn blank(self) -> Sheet {
+        match self.mode {
+            Mode::Controller => Sheet::controller(self.lines_in, self.outputs),
+            Mode::Shield => Sheet::shield(self.lines_in, self.outputs),
+        }
+    }
+
     /// The guard's input lines.
     pub fn inputs(self) -> u8 {
-        self.lines_in + if self.mode == SHIELD { self.outputs } else { 0 }
+        self.blank().inputs()
     }
 
     /// The longest horizon.
@@ -54,12 +50,8 @@ impl Shape {
     }
 
     /// The letters of a monitor's rows.
-    pub fn letters(self, role: u8) -> usize {
-        if role == LIMIT {
-            4
-        } else {
-            1 << (self.lines_in + self.outputs)
-        }
+    pub fn letters(self, role: Role) -> usize {
+        self.blank().letters(role)
     }
 }
 
@@ -73,7 +65,7 @@ pub fn head(random: &mut Random, shape: Shape) -> Vec<u8> {
         _ => random.byte_below(most + 1),
     };
     let match_weight = match (shape.mode, random.below(3)) {
-        (CONTROLLER, _) | (_, 0) => 0,
+        (Mode::Controller, _) | (_, 0) => 0,
         (_, 1) => random.byte_below(4),
         _ => random.byte(),
     };
@@ -81,9 +73,9 @@ pub fn head(random: &mut Random, shape: Shape) -> Vec<u8> {
     for place in (1..lines.len()).rev() {
         lines.swap(place, random.below(place + 1));
     }
-    let mut body = vec![shape.mode, shape.lines_in, shape.outputs, horizon, match_weight];
-    body.extend(lines.into_iter().map(|line| line + 8 * random.byte_below(2)));
-    record(1, &body)
+    let prefer: Vec<Literal> =
+        lines.into_iter().map(|line| Literal { line, on: random.byte_below(2) == 0 }).collect();
+    shape.blank().horizon(horizon).match_weight(match_weight).prefer(prefer).head()
 }
 
 /// How the next states of a monitor come about.
@@ -104,7 +96,7 @@ enum Style {
 }
 
 /// A monitor in bounds, with at most so many states.
-pub fn monitor(random: &mut Random, shape: Shape, role: u8, most: usize) -> Vec<u8> {
+pub fn monitor(random: &mut Random, shape: Shape, role: Role, most: usize) -> Vec<u8> {
     let states = 1 + random.below(most.clamp(1, 32));
     let letters = shape.letters(role);
     let bits = letters.trailing_zeros() as usize;
@@ -127,7 +119,8 @@ pub fn monitor(random: &mut Random, shape: Shape, role: u8, most: usize) -> Vec<
         let ways = [random.below(states), random.below(states)];
         for letter in 0..letters {
             let on = (state + 1).min(states - 1);
-            let moves = if role == LIMIT { letter & 2 != 0 } else { moving >> letter & 1 == 1 };
+            let moves =
+                if role == Role::Limit { letter & 2 != 0 } else { moving >> letter & 1 == 1 };
             let next = match style {
                 Style::Wild => random.below(states),
                 Style::Slow if random.once_in(4) => random.below(states),
@@ -142,23 +135,20 @@ pub fn monitor(random: &mut Random, shape: Shape, role: u8, most: usize) -> Vec<
             rows.push(next as u8);
         }
     }
-    let accept: Vec<u8> = (0..states)
+    let accepts = (0..states)
         .map(|state| match (role, style) {
-            (SOFT, _) => random.byte_below(2),
-            (_, Style::Budget | Style::Streak) => u8::from(state + 1 < states || random.once_in(4)),
-            _ => u8::from(!random.once_in(6)),
+            (Role::Soft, _) => random.byte_below(2) == 1,
+            (_, Style::Budget | Style::Streak) => state + 1 < states || random.once_in(4),
+            _ => !random.once_in(6),
         })
         .collect();
     let weight = match (role, random.below(3)) {
-        (SOFT, 0) => 1 + random.byte_below(4),
-        (SOFT, 1) => 255 - random.byte_below(4),
-        (SOFT, _) => 1 + random.byte_below(255),
+        (Role::Soft, 0) => 1 + random.byte_below(4),
+        (Role::Soft, 1) => 255 - random.byte_below(4),
+        (Role::Soft, _) => 1 + random.byte_below(255),
         _ => 0,
     };
-    let mut body = vec![role, weight, states as u8, start as u8];
-    body.extend(accept);
-    body.extend(rows);
-    record(2, &body)
+    Monitor { role, weight, start: start as u8, accepts, next: rows }.record()
 }
 
 /// A hard monitor that can be lost slowly: from each safe state some output keeps it safe, from a
@@ -175,7 +165,7 @@ pub fn game(random: &mut Random, shape: Shape, most: usize) -> Vec<u8> {
     let inputs = 1 << shape.lines_in;
     let outputs = 1 << shape.outputs;
     let mut next = vec![vec![0; inputs * outputs]; states];
-    let mut accept = vec![1; states];
+    let mut accepts = vec![true; states];
     for place in 0..states {
         let forced = random.below(inputs);
         for input in 0..inputs {
@@ -192,18 +182,16 @@ pub fn game(random: &mut Random, shape: Shape, most: usize) -> Vec<u8> {
             }
         }
     }
-    accept[usize::from(names[safe])] = 0;
+    accepts[usize::from(names[safe])] = false;
     let start = if random.once_in(8) { random.below(states) } else { random.below(safe) };
-    let mut body = vec![HARD, 0, states as u8, names[start]];
-    body.extend(accept);
-    body.extend(next.concat());
-    record(2, &body)
+    let start = names[start];
+    Monitor { role: Role::Hard, weight: 0, start, accepts, next: next.concat() }.record()
 }
 
 /// A sheet that none of 1 to 6 applies to; 7 and 8 may.
 pub fn sheet(random: &mut Random) -> Vec<u8> {
     let shapes = Shape::all();
-    let mode = random.byte_below(2);
+    let mode = random.pick(&[Mode::Controller, Mode::Shield]);
     let shape = loop {
         let shape = random.pick(&shapes);
         if shape.mode == mode {
@@ -216,20 +204,22 @@ pub fn sheet(random: &mut Random) -> Vec<u8> {
     let monitors = random.pick(&[0, 1, 2, 2, 3, 3, 4, 5, 6]);
     for _ in 0..monitors {
         let role = match shape.mode {
-            SHIELD => random.pick(&[HARD, HARD, SOFT, SOFT, LIMIT]),
-            _ => random.pick(&[HARD, SOFT]),
+            Mode::Shield => {
+                random.pick(&[Role::Hard, Role::Hard, Role::Soft, Role::Soft, Role::Limit])
+            }
+            _ => random.pick(&[Role::Hard, Role::Soft]),
         };
         let most = match (random.below(8), shape.mode, role) {
             (0, _, _) => room,
-            (_, SHIELD, HARD) => room.isqrt().min(4),
+            (_, Mode::Shield, Role::Hard) => room.isqrt().min(4),
             _ => room.min(5),
         };
         let record = match role {
-            HARD if random.once_in(2) => game(random, shape, most.max(room.min(20))),
+            Role::Hard if random.once_in(2) => game(random, shape, most.max(room.min(20))),
             _ => monitor(random, shape, role, most),
         };
         let states = usize::from(record[6]);
-        let copies = if shape.mode == SHIELD && role == HARD { states } else { 1 };
+        let copies = if shape.mode == Mode::Shield && role == Role::Hard { states } else { 1 };
         room = (room / (states * copies)).max(1);
         bytes.extend(record);
     }
@@ -334,7 +324,7 @@ fn head_about_bounds(random: &mut Random) -> Vec<u8> {
 
 /// A monitor with a field or the length about its bounds.
 fn monitor_about_bounds(random: &mut Random, shape: Shape) -> Vec<u8> {
-    let role = random.pick(&[HARD, SOFT, LIMIT]);
+    let role = random.pick(&[Role::Hard, Role::Soft, Role::Limit]);
     let mut bytes = monitor(random, shape, role, 4);
     let states = bytes[6];
     match random.below(10) {
@@ -381,7 +371,7 @@ pub fn any_sheet(random: &mut Random) -> Vec<u8> {
             let mut bytes = head_about_bounds(random);
             let shape = random.pick(&Shape::all());
             for _ in 0..random.below(3) {
-                let role = random.pick(&[HARD, SOFT, LIMIT]);
+                let role = random.pick(&[Role::Hard, Role::Soft, Role::Limit]);
                 bytes.extend(monitor(random, shape, role, 3));
             }
             bytes
@@ -393,7 +383,7 @@ pub fn any_sheet(random: &mut Random) -> Vec<u8> {
                 bytes.extend(if random.once_in(4) {
                     monitor_about_bounds(random, shape)
                 } else {
-                    monitor(random, shape, SOFT, 2)
+                    monitor(random, shape, Role::Soft, 2)
                 });
             }
             if random.once_in(4) {
@@ -418,7 +408,7 @@ fn long_sheet(random: &mut Random) -> Vec<u8> {
         let mut states = 0;
         let mut record = Vec::new();
         while states < 30 {
-            record = monitor(random, shape, SOFT, 32);
+            record = monitor(random, shape, Role::Soft, 32);
             states = record[6];
         }
         bytes.extend(record);
@@ -441,7 +431,7 @@ pub fn table(random: &mut Random) -> Vec<u8> {
         _ => 1 + random.below(12),
     };
     let horizon = random.byte_below(shape.horizon_most() + 1);
-    table_of(random, [shape.mode, shape.inputs(), shape.outputs, horizon], count)
+    table_of(random, [shape.mode as u8, shape.inputs(), shape.outputs, horizon], count)
 }
 
 /// A table with any entries by its head: mode, inputs, outputs, H, count, in bounds or not.

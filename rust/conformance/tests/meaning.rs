@@ -6,6 +6,7 @@ use std::collections::HashMap;
 
 use conformance::generate::{self, Shape};
 use conformance::{cases, seed, Random};
+use guard::sheet::{Mode, Role};
 use reference::{Board, Kept, Product, Sheet, Tuple};
 
 /// The most product states of a sheet that is tried: after as many inputs nothing changes.
@@ -117,11 +118,11 @@ fn small_sheet(random: &mut Random) -> Vec<u8> {
     };
     for _ in 0..random.below(4) {
         let role = match shape.mode {
-            1 => random.byte_below(3),
-            _ => random.byte_below(2),
+            Mode::Shield => random.pick(&[Role::Hard, Role::Soft, Role::Limit]),
+            Mode::Controller => random.pick(&[Role::Hard, Role::Soft]),
         };
         bytes.extend(match role {
-            0 if random.once_in(2) => generate::game(random, shape, 4),
+            Role::Hard if random.once_in(2) => generate::game(random, shape, 4),
             _ => generate::monitor(random, shape, role, 3),
         });
     }

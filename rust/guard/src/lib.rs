@@ -50,6 +50,7 @@ mod board;
 #[allow(unsafe_code)]
 pub mod calls;
 mod refusal;
+pub mod sheet;
 mod tables;
 mod work;
 
