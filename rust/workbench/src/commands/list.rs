@@ -1,0 +1,40 @@
+//! `guard list`: the listing of a guard.
+
+use super::Command;
+use crate::arguments::{Arguments, Options};
+use crate::bench::{Bench, Outcome, Stop};
+use crate::making;
+use crate::source::Source;
+
+/// The longest sheet that is listed.
+const SHEET_BYTES_MOST: usize = 16_384;
+
+pub const COMMAND: Command = Command {
+    name: "list",
+    usage: "FILE",
+    about: "the listing of a guard",
+    help: "\
+The first line has states, inputs, outputs and horizon; then comes a line for each state with
+output>next state for each input, ascending. A refused sheet is listed as `refused N`.
+",
+    run,
+};
+
+fn run(words: &[String], bench: &mut Bench) -> Outcome {
+    let arguments = Arguments::read(words, Options::default())?;
+    let source = Source::read(&arguments.file, bench)?;
+    if source.bytes.len() > SHEET_BYTES_MOST && !source.is_table() {
+        writeln!(bench.out, "too long")?;
+        bench.say(format!("{}: more than {SHEET_BYTES_MOST} bytes", source.file));
+        return Err(Stop::Refused);
+    }
+    let listing = making::guard_or_refusal(&source).and_then(|guard| guard.listing());
+    match listing {
+        Ok(listing) => bench.out.write_all(listing.as_bytes())?,
+        Err(refusal) => {
+            writeln!(bench.out, "refused {}", refusal.number())?;
+            return Err(making::refuse(refusal, &source, bench));
+        }
+    }
+    Ok(())
+}

@@ -1,0 +1,72 @@
+//! `guard supervisor`: the allowed outputs, by names.
+
+use guard::Supervisor;
+
+use super::{check, Command};
+use crate::arguments::{Arguments, Options};
+use crate::bench::{Bench, Outcome};
+use crate::making;
+use crate::source::Source;
+use crate::states::States;
+
+pub const COMMAND: Command = Command {
+    name: "supervisor",
+    usage: "FILE",
+    about: "the supervisor: states, inputs and allowed outputs, by names",
+    help: "\
+For each product state the monitors' states that it stands for (after a ; those of the copies that
+read a shield's proposal), then for each input every output that can still be survived. A state is
+lost where some input leaves none.
+",
+    run,
+};
+
+fn run(words: &[String], bench: &mut Bench) -> Outcome {
+    let arguments = Arguments::read(words, Options::default())?;
+    let source = Source::read(&arguments.file, bench)?;
+    let supervisor = making::supervisor(&source, bench)?;
+    let Some(states) = States::of(&source, &supervisor) else {
+        return Err(check::differs(bench));
+    };
+    for state in 0..supervisor.states() {
+        let lost = if supervisor.is_kept(state) { "" } else { ", lost" };
+        writeln!(bench.out, "state {state}{}{lost}", described(&states, state))?;
+        if supervisor.is_kept(state) {
+            write_inputs(&supervisor, &states, state, bench)?;
+        }
+    }
+    Ok(())
+}
+
+/// The monitors by name, each with its state.
+fn described(states: &States, state: usize) -> String {
+    let (monitors, copies) = states.monitors(state);
+    let names = states.named.names.monitors.iter().map(|monitor| monitor.name.as_str());
+    let each: Vec<String> =
+        names.zip(monitors).map(|(monitor, state)| format!("{monitor} {state}")).collect();
+    let mut text = each.join(", ");
+    if !copies.is_empty() {
+        text = format!("{text}; proposal {}", copies.join(", "));
+    }
+    if text.is_empty() { text } else { format!(": {text}") }
+}
+
+fn write_inputs(
+    supervisor: &Supervisor,
+    states: &States,
+    state: usize,
+    bench: &mut Bench,
+) -> Outcome {
+    let (sheet, names) = (&states.named.sheet, &states.named.names);
+    let inputs: Vec<String> =
+        (0..1 << supervisor.inputs()).map(|input| names.input(sheet.mode, input)).collect();
+    let width = inputs.iter().map(String::len).max().unwrap_or(0);
+    for (input, name) in inputs.iter().enumerate() {
+        let allowed = (0..1 << supervisor.outputs())
+            .filter(|&output| supervisor.allows(state, input as u8, output))
+            .map(|output| names.output(output));
+        let allowed: Vec<String> = allowed.collect();
+        writeln!(bench.out, "  {name:<width$}  {}", allowed.join(", "))?;
+    }
+    Ok(())
+}

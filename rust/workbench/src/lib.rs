@@ -1,0 +1,18 @@
+//! The workbench: write, check, see and try a sheet.
+//!
+//! [`text`] is the text sheet, [`source`] takes a file for what it is, [`making`] has the proved
+//! library make its tables, and [`commands`] has a file for each command. Every number and every
+//! table is the library's; the reference tells places and names, and only where it agrees.
+
+pub mod arguments;
+pub mod bench;
+pub mod commands;
+pub mod hexadecimal;
+pub mod making;
+pub mod names;
+pub mod output;
+pub mod place;
+pub mod source;
+pub mod states;
+pub mod tap;
+pub mod text;

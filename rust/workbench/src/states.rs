@@ -1,0 +1,61 @@
+//! What product states and guard states stand for, by the names of monitor states.
+//!
+//! The library numbers product states and does not say which monitor states they are made of. The
+//! reference does; it is asked only where its supervisor table is the library's, byte for byte.
+
+use guard::sheet::{Mode, Role};
+use guard::{Guard, Supervisor};
+use reference::Product;
+
+use crate::source::Source;
+use crate::text::Named;
+
+/// The product states of a sheet, with their names.
+pub struct States {
+    pub named: Named,
+    pub product: Product,
+}
+
+impl States {
+    /// Nothing where reference and library differ.
+    pub fn of(source: &Source, supervisor: &Supervisor) -> Option<States> {
+        let table = reference::supervisor_table(&source.bytes).ok()?;
+        if table != supervisor.as_bytes() {
+            return None;
+        }
+        let product = Product::explore(&reference::Sheet::parse(&source.bytes).ok()?).ok()?;
+        Some(States { named: source.named()?, product })
+    }
+
+    /// The monitors' states of a product state, in order; then those of the copies that read the
+    /// proposal.
+    pub fn monitors(&self, state: usize) -> (Vec<String>, Vec<String>) {
+        let Named { sheet, names } = &self.named;
+        let tuple = self.product.tuple(state);
+        let all: Vec<usize> = (0..sheet.monitors.len()).collect();
+        let hard = |&&monitor: &&usize| {
+            sheet.mode == Mode::Shield && sheet.monitors[monitor].role == Role::Hard
+        };
+        let copied: Vec<usize> = all.iter().filter(hard).copied().collect();
+        let mut places = tuple.iter();
+        let mut name = |&monitor: &usize| {
+            let state = places.next().map_or(0, |&state| usize::from(state));
+            names.monitors[monitor].states[state].clone()
+        };
+        (all.iter().map(&mut name).collect(), copied.iter().map(&mut name).collect())
+    }
+
+    /// The product state of each guard state: the guard's outputs are followed from the start.
+    pub fn of_guard(&self, guard: &Guard) -> Option<Vec<usize>> {
+        let mut found = vec![None; guard.states()];
+        found[0] = Some(0);
+        for state in 0..guard.states() {
+            for input in 0..1 << guard.inputs() {
+                let (output, next) = guard.entry(state, input);
+                let edge = self.product.edge(found[state]?, input.into(), output.into());
+                found[next].get_or_insert(edge.next()?);
+            }
+        }
+        found.into_iter().collect()
+    }
+}

@@ -1,0 +1,194 @@
+//! From a draft to the sheet, with every fault that is in it.
+
+use guard::sheet::{Literal, Mode, Role, Sheet};
+
+use super::draft::{Draft, DraftMonitor};
+use super::monitor::judge_monitor;
+use super::statement::HORIZON_MOST;
+use super::words::Word;
+use super::Named;
+use crate::names::{MonitorNames, Names};
+use crate::place::{Fault, Place};
+
+const LINES_IN_MOST: usize = 4;
+const LINES_OUT_MOST: usize = 3;
+const INPUTS_MOST: usize = 4;
+const LINES_MOST: usize = 6;
+const MONITORS_MOST: usize = 6;
+
+/// What judging a draft comes to besides the sheet.
+#[derive(Default)]
+pub struct Findings {
+    /// What makes it no sheet.
+    pub faults: Vec<Fault>,
+    /// What can hardly be meant.
+    pub warnings: Vec<Fault>,
+}
+
+/// The sheet that the draft is, as far as it can be told; it stands only where there is no fault.
+pub fn judge(draft: &Draft, end: Place, found: &mut Findings) -> Named {
+    judge_missing(draft, end, found);
+    let lines_in = judge_lines(draft.lines_in.as_ref(), LINES_IN_MOST, "in", found);
+    let lines_out = judge_lines(draft.lines_out.as_ref(), LINES_OUT_MOST, "out", found);
+    judge_distinct(&[&lines_in[..], &lines_out[..]].concat(), "line", found);
+    let texts = |words: &[Word]| words.iter().map(|word| word.text.clone()).collect::<Vec<_>>();
+    let mode = draft.mode.map_or(Mode::Controller, |(mode, _)| mode);
+    let new = if mode == Mode::Shield { Sheet::shield } else { Sheet::controller };
+    let mut named = Named {
+        sheet: new(lines_in.len() as u8, lines_out.len() as u8),
+        names: Names {
+            lines_in: texts(&lines_in),
+            lines_out: texts(&lines_out),
+            monitors: Vec::new(),
+        },
+    };
+    let fits = judge_size(draft, &named.sheet, found);
+    named.sheet.horizon = judge_horizon(draft, &named.sheet, found);
+    named.sheet.match_weight = judge_match(draft, mode, found);
+    named.sheet.prefer = judge_order(draft, &named.names.lines_out, found);
+    // Without all lines, or with too many, conditions cannot be held against the letters.
+    let faulty = |line: &str| draft.faulty.iter().any(|faulty| faulty == line);
+    let whole = |list: &Option<(Vec<Word>, Place)>, kept: &[Word]| {
+        list.as_ref().is_none_or(|(words, _)| words.len() == kept.len())
+    };
+    let lists = whole(&draft.lines_in, &lines_in) && whole(&draft.lines_out, &lines_out);
+    let readable = fits && lists && draft.lines_out.is_some() && !faulty("in") && !faulty("out");
+    judge_monitors(draft, readable, &mut named, found);
+    named
+}
+
+/// A fault for each line of the head that is not there.
+fn judge_missing(draft: &Draft, end: Place, found: &mut Findings) {
+    let place = draft.monitors.first().map_or(end, |monitor| monitor.place);
+    let lines = [
+        ("mode", draft.mode.is_some(), "`mode controller` or `mode shield`"),
+        ("out", draft.lines_out.is_some(), "`out` and the names of one to three lines"),
+        ("horizon", draft.horizon.is_some(), "`horizon` and a number"),
+        ("prefer", draft.prefer.is_some(), "`prefer` and every line out once"),
+    ];
+    for (line, there, expected) in lines {
+        if !there && !draft.faulty.iter().any(|faulty| faulty == line) {
+            let what = format!("the head has no line `{line}`");
+            found.faults.push(Fault::new(place, what, format!("{expected} before this")));
+        }
+    }
+}
+
+/// The names of a list, as many as there may be.
+fn judge_lines(
+    list: Option<&(Vec<Word>, Place)>,
+    most: usize,
+    way: &str,
+    found: &mut Findings,
+) -> Vec<Word> {
+    let Some((words, _)) = list else { return Vec::new() };
+    if let Some(beyond) = words.get(most) {
+        let what = format!("{} lines {way}", words.len());
+        found.faults.push(Fault::new(beyond.place, what, format!("at most {most}")));
+    }
+    words.iter().take(most).cloned().collect()
+}
+
+/// A fault for each name that stands before too.
+pub fn judge_distinct(words: &[Word], of: &str, found: &mut Findings) {
+    for (number, word) in words.iter().enumerate() {
+        if let Some(earlier) = words[..number].iter().find(|earlier| earlier.text == word.text) {
+            let what = format!("a second {of} `{}`, after line {}", word.text, earlier.place.line);
+            found.faults.push(Fault::new(word.place, what, "a name of its own"));
+        }
+    }
+}
+
+/// Whether the guard has no more inputs and lines than it may.
+fn judge_size(draft: &Draft, sheet: &Sheet, found: &mut Findings) -> bool {
+    let (inputs, outputs) = (usize::from(sheet.inputs()), usize::from(sheet.lines_out));
+    let place = [&draft.lines_out, &draft.lines_in]
+        .into_iter()
+        .flatten()
+        .next()
+        .map(|(_, place)| *place);
+    let Some(place) = place else { return true };
+    let of = match sheet.mode {
+        Mode::Controller => "",
+        Mode::Shield => ", since a shield reads a proposal for each line out",
+    };
+    if inputs > INPUTS_MOST {
+        let what = format!("the guard has {inputs} inputs{of}");
+        found.faults.push(Fault::new(place, what, format!("at most {INPUTS_MOST}")));
+    } else if inputs + outputs > LINES_MOST {
+        let what = format!("the guard has {inputs} inputs{of}, and {outputs} outputs");
+        let expected = format!("at most {LINES_MOST} together");
+        found.faults.push(Fault::new(place, what, expected));
+    }
+    inputs <= INPUTS_MOST && inputs + outputs <= LINES_MOST
+}
+
+fn judge_horizon(draft: &Draft, sheet: &Sheet, found: &mut Findings) -> u8 {
+    let Some((horizon, place)) = draft.horizon else { return 0 };
+    let inputs = sheet.inputs();
+    if u16::from(inputs) * u16::from(horizon) > u16::from(HORIZON_MOST) {
+        let what = format!("the horizon is {horizon}, of a guard with {inputs} inputs");
+        let most = HORIZON_MOST / inputs;
+        found.faults.push(Fault::new(place, what, format!("at most {most}: inputs times horizon is at most {HORIZON_MOST}")));
+    }
+    horizon
+}
+
+fn judge_match(draft: &Draft, mode: Mode, found: &mut Findings) -> u8 {
+    let Some((weight, place)) = draft.match_weight else { return 0 };
+    if mode == Mode::Controller && draft.mode.is_some() {
+        let what = "a match weight for a controller, which reads no proposal";
+        found.faults.push(Fault::new(place, what, "it only after `mode shield`"));
+    }
+    weight
+}
+
+/// The order of preference: every line out once.
+fn judge_order(draft: &Draft, lines_out: &[String], found: &mut Findings) -> Vec<Literal> {
+    let (Some((order, place)), Some(_)) = (&draft.prefer, &draft.lines_out) else {
+        return Vec::new();
+    };
+    let expected = format!("every line out once: {}", lines_out.join(", "));
+    let mut literals: Vec<Literal> = Vec::new();
+    for (word, on) in order {
+        let Some(line) = lines_out.iter().position(|line| *line == word.text) else {
+            let what = format!("there is no line out `{}`", word.text);
+            found.faults.push(Fault::new(word.place, what, &expected));
+            continue;
+        };
+        if literals.iter().any(|literal| usize::from(literal.line) == line) {
+            let what = format!("`{}` is named a second time", word.text);
+            found.faults.push(Fault::new(word.place, what, &expected));
+        }
+        literals.push(Literal { line: line as u8, on: *on });
+    }
+    let named = |line: usize| literals.iter().any(|literal| usize::from(literal.line) == line);
+    if let Some(line) = (0..lines_out.len()).find(|&line| !named(line)) {
+        let what = format!("`{}` is not named", lines_out[line]);
+        found.faults.push(Fault::new(*place, what, &expected));
+    }
+    literals
+}
+
+fn judge_monitors(draft: &Draft, readable: bool, named: &mut Named, found: &mut Findings) {
+    let openings: Vec<Word> =
+        draft.monitors.iter().filter_map(|monitor| monitor.opening.name.clone()).collect();
+    judge_distinct(&openings, "monitor", found);
+    for (number, draft_monitor) in draft.monitors.iter().enumerate() {
+        let DraftMonitor { opening, place, .. } = draft_monitor;
+        if number == MONITORS_MOST {
+            let what = "a seventh monitor";
+            found.faults.push(Fault::new(*place, what, format!("at most {MONITORS_MOST}")));
+        }
+        if opening.role == Role::Limit && matches!(draft.mode, Some((Mode::Controller, _))) {
+            let what = "a deviation limit for a controller, which reads no proposal";
+            found.faults.push(Fault::new(*place, what, "it only after `mode shield`"));
+        }
+        let lines = named.names.read_by(opening.role);
+        let readable = readable || opening.role == Role::Limit;
+        let (monitor, states) = judge_monitor(draft_monitor, readable.then_some(&lines[..]), found);
+        let name = opening.name.as_ref().map_or(String::new(), |word| word.text.clone());
+        named.names.monitors.push(MonitorNames { name, states });
+        named.sheet.monitors.push(monitor);
+    }
+}

@@ -1,0 +1,91 @@
+//! Commands run within the test, with their streams caught.
+
+#![allow(dead_code)]
+
+use std::path::PathBuf;
+
+use conformance::Random;
+use workbench::bench::{Bench, Stop};
+use workbench::commands;
+
+/// What a command came to.
+#[derive(Clone, Debug, PartialEq, Eq)]
+pub struct Done {
+    pub status: u8,
+    pub out: Vec<u8>,
+    pub err: String,
+}
+
+impl Done {
+    /// Standard output as text.
+    pub fn text(&self) -> String {
+        String::from_utf8(self.out.clone()).expect("text on standard output")
+    }
+}
+
+/// Runs a command as `main` does.
+pub fn guard(words: &[&str], input: &[u8]) -> Done {
+    let words: Vec<String> = words.iter().map(|word| word.to_string()).collect();
+    let (mut out, mut err) = (Vec::new(), Vec::new());
+    let mut input = input;
+    let mut bench =
+        Bench { input: &mut input, out: &mut out, err: &mut err, terminal: false };
+    let status = match commands::dispatch(&words, &mut bench) {
+        Ok(()) => 0,
+        Err(stop) => {
+            if let Stop::Use(what) | Stop::File(what) = &stop {
+                bench.say(what);
+            }
+            stop.status()
+        }
+    };
+    Done { status, out, err: String::from_utf8(err).expect("text on standard error") }
+}
+
+/// A folder of the repository.
+pub fn repository(folder: &str) -> PathBuf {
+    PathBuf::from(env!("CARGO_MANIFEST_DIR")).join("../..").join(folder)
+}
+
+/// The files of a folder with this ending, in order.
+pub fn files(folder: PathBuf, ending: &str) -> Vec<PathBuf> {
+    let entries = std::fs::read_dir(&folder).expect("the folder is there");
+    let mut files: Vec<PathBuf> = entries
+        .map(|entry| entry.expect("an entry").path())
+        .filter(|path| path.extension().is_some_and(|found| found == ending))
+        .collect();
+    files.sort();
+    files
+}
+
+/// A folder for a test's own files, which goes with it.
+pub struct Folder(pub PathBuf);
+
+impl Folder {
+    pub fn new(name: &str) -> Folder {
+        let folder = std::env::temp_dir().join(format!("guard-{name}-{}", std::process::id()));
+        std::fs::create_dir_all(&folder).expect("a folder for the test");
+        Folder(folder)
+    }
+
+    /// A file in it, as a word of a command.
+    pub fn file(&self, name: &str) -> String {
+        self.0.join(name).to_str().expect("a name in letters").to_string()
+    }
+}
+
+impl Drop for Folder {
+    fn drop(&mut self) {
+        let _ = std::fs::remove_dir_all(&self.0);
+    }
+}
+
+/// Bytes as hexadecimal text.
+pub fn hexadecimal(bytes: &[u8]) -> String {
+    bytes.iter().map(|byte| format!("{byte:02x} ")).collect()
+}
+
+/// One of several texts.
+pub fn pick<'a>(random: &mut Random, of: &[&'a str]) -> &'a str {
+    of[random.below(of.len())]
+}
