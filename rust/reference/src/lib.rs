@@ -4,10 +4,11 @@
 //! proved library, which it is compared with, but the names of the refusals: it is the outside
 //! evidence for the readings, and the yardstick for the speed.
 //!
-//! The way of the data: the bytes of a site sheet become a [`Sheet`]; [`Product`] numbers the
-//! product states and holds their steps; [`Kept`] tells which of them survive the rounds;
-//! [`Values`] weighs the steps over the horizon. [`make_supervisor`] and [`make_guard`] write
-//! the tables, and a [`Board`] runs a guard table. [`list`] prints one.
+//! The way of the data: the bytes of a site sheet become a [`Sheet`], or a [`Fault`] tells where
+//! they are wrong; [`Product`] numbers the product states and holds their steps; [`Kept`] tells
+//! which of them survive the rounds; [`Values`] weighs the steps over the horizon.
+//! [`make_supervisor`] and [`make_guard`] write the tables, and a [`Board`] runs a guard table.
+//! [`list`] prints one.
 //!
 //! ```
 //! let sheet: Vec<u8> = [
@@ -24,14 +25,17 @@
 //! ```
 
 mod board;
+mod fault;
 mod listing;
 mod product;
+mod reading;
 mod refusal;
 mod sheet;
 mod tables;
 mod values;
 
 pub use board::{loadable, Board, TableHead, STEPS_MOST};
+pub use fault::Fault;
 pub use listing::{list, list_table, SHEET_BYTES_MOST};
 pub use product::{Edge, Kept, Product, STATES_MOST};
 pub use refusal::Refusal;
