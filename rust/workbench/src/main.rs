@@ -1,6 +1,6 @@
 //! The command line; tools/guard builds and runs it.
 
-use std::io::{self, BufReader, BufWriter, IsTerminal, Write};
+use std::io::{self, BufReader, BufWriter, IsTerminal};
 use std::process::ExitCode;
 
 use workbench::bench::{Bench, Stop};

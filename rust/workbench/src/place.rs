@@ -22,29 +22,36 @@ impl Fault {
         Fault { place, what: what.into(), expected: expected.into() }
     }
 
-    /// The fault as it is printed: file, place, what is wrong, the line with a mark, what was expected.
+    /// The fault as it is printed: file, place, what is wrong, the line with a mark, what was
+    /// expected.
     pub fn within<'a>(&'a self, file: &'a str, text: &'a str) -> Told<'a> {
-        Told { fault: self, file, text }
+        self.on_line(file, text.lines().nth(self.place.line - 1).unwrap_or(""))
+    }
+
+    /// The same, by the line that it is on.
+    pub fn on_line<'a>(&'a self, file: &'a str, line: &'a str) -> Told<'a> {
+        Told { fault: self, file, line }
     }
 }
 
-/// A fault with the file and the text that it is of.
+/// A fault with the file and the line that it is of.
 pub struct Told<'a> {
     fault: &'a Fault,
     file: &'a str,
-    text: &'a str,
+    line: &'a str,
 }
 
 impl fmt::Display for Told<'_> {
     fn fmt(&self, f: &mut fmt::Formatter<'_>) -> fmt::Result {
         let Fault { place, what, expected } = self.fault;
         writeln!(f, "{}:{}:{}: {what}", self.file, place.line, place.column)?;
-        let line = self.text.lines().nth(place.line - 1).unwrap_or("");
+        let line = self.line;
         let shown: String = line.chars().map(visible).collect();
         let before = place.column - 1;
         // Tabs stay tabs, so that the mark stands below its place.
         let blank = |c| if c == '\t' { '\t' } else { ' ' };
-        let indent: String = line.chars().chain(std::iter::repeat(' ')).take(before).map(blank).collect();
+        let indent: String =
+            line.chars().chain(std::iter::repeat(' ')).take(before).map(blank).collect();
         writeln!(f, "    {}", shown.trim_end())?;
         writeln!(f, "    {indent}^")?;
         writeln!(f, "  expected {expected}")

@@ -46,7 +46,9 @@ impl Taken {
     pub fn reason(self) -> &'static str {
         match self {
             Taken::TextSheet => "taken for a text sheet, since a statement's first word is in it",
-            Taken::Hexadecimal => "taken for hexadecimal text, since no word of a text sheet is in it",
+            Taken::Hexadecimal => {
+                "taken for hexadecimal text, since no word of a text sheet is in it"
+            }
             Taken::Bytes => "taken for bytes, since it is empty or has control characters",
         }
     }

@@ -17,12 +17,7 @@ pub enum Call {
 }
 
 /// The call of a line; nothing where it is blank.
-pub fn read(
-    line: &str,
-    number: usize,
-    names: &Names,
-    mode: Mode,
-) -> Result<Option<Call>, Fault> {
+pub fn read(line: &str, number: usize, names: &Names, mode: Mode) -> Result<Option<Call>, Fault> {
     let mut faults = Vec::new();
     let words = words::words(line, number, &mut faults);
     if let Some(fault) = faults.into_iter().next() {
@@ -64,8 +59,12 @@ fn read_lines(line: &mut Line, lines: &[String]) -> Result<u8, Fault> {
             [] => "no line: there is none".to_string(),
             _ => format!("one of {}, or `!` and one", lines.join(", ")),
         };
-        let known = line.peek().and_then(|word| lines.iter().position(|line| *line == word.text));
-        let Some(bit) = known else { return Err(line.unlike(expected)) };
+        let Some(word) = line.peek().filter(|word| word.is_free_name()) else {
+            return Err(line.unlike(expected));
+        };
+        let Some(bit) = lines.iter().position(|line| *line == word.text) else {
+            return Err(line.fault(format!("there is no line `{}` here", word.text), expected));
+        };
         if named >> bit & 1 == 1 {
             return Err(line.fault("this line is named twice", "each line once"));
         }

@@ -76,7 +76,8 @@ fn script(random: &mut Random, table: &[u8]) -> (String, Vec<String>, bool) {
             }
             _ => {
                 let most = 1 << head.inputs;
-                let input = random.byte_below(if random.once_in(10) { 2 * most } else { most });
+                let beyond = random.once_in(10);
+                let input = random.byte_below(if beyond { 2 * most } else { most });
                 let line = input_line(random, &head, input);
                 (line, board.step(table, input).map(|output| output_names(&head, output)))
             }
@@ -153,7 +154,7 @@ fn unreadable_lines_are_told() {
         "out0 | state 2 | steps 1 | deviations 0\n!out0 | state 0 | steps 2 | deviations 0\n"
     );
     assert_eq!(done.status, 1);
-    let places: Vec<&str> =
-        done.err.lines().filter(|line| line.starts_with("line ")).map(|line| &line[..8]).collect();
-    assert_eq!(places, ["line 2:1", "line 3:5", "line 4:6", "line 5:1", "line 6:6", "line 7:3", "line 8:1"]);
+    let told = done.err.lines().filter_map(|line| line.strip_prefix("standard input:"));
+    let places: Vec<&str> = told.map(|line| line.split(": ").next().unwrap_or("")).collect();
+    assert_eq!(places, ["2:1", "3:5", "4:6", "5:1", "6:6", "7:3", "8:1"]);
 }

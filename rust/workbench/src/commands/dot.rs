@@ -67,7 +67,11 @@ fn guard_graph(source: &Source, bench: &mut Bench) -> Result<(Graph, Names, Mode
 }
 
 /// The monitors' states that each guard state stands for.
-fn guard_labels(source: &Source, guard: &Guard, bench: &mut Bench) -> Result<Vec<Vec<String>>, Stop> {
+fn guard_labels(
+    source: &Source,
+    guard: &Guard,
+    bench: &mut Bench,
+) -> Result<Vec<Vec<String>>, Stop> {
     let supervisor = making::supervisor(source, bench)?;
     let states = States::of(source, &supervisor);
     let places = states.as_ref().and_then(|states| states.of_guard(guard));

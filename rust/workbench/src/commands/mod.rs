@@ -70,7 +70,8 @@ fn is_help(word: &str) -> bool {
 }
 
 fn overview() -> String {
-    let mut text = "Write, check, see and try a sheet; docs/SHEETS.md tells how to write one.\n\n".to_string();
+    let mut text =
+        "Write, check, see and try a sheet; docs/SHEETS.md tells how to write one.\n\n".to_string();
     for Command { name, usage, about, .. } in &COMMANDS {
         text += &format!("  guard {:<40} {about}\n", format!("{name} {usage}"));
     }

@@ -8,7 +8,6 @@ use crate::arguments::{Arguments, Options};
 use crate::bench::{Bench, Outcome, Stop};
 use crate::making;
 use crate::names::Names;
-use crate::place::Fault;
 use crate::source::{mode_of, Source};
 use crate::tap::{self, Call};
 
@@ -95,8 +94,9 @@ impl Run {
                 bench.out.flush()?;
             }
             Err(fault) => {
+                // A line that cannot be read calls nothing.
                 self.refused = true;
-                tell(&fault, line, bench);
+                let _ = write!(bench.err, "{}", fault.on_line("standard input", line));
             }
         }
         Ok(())
@@ -125,11 +125,4 @@ impl Run {
             Err(refusal) => refusal.to_string(),
         }
     }
-}
-
-/// A line that cannot be read is told apart from a refused call.
-fn tell(fault: &Fault, line: &str, bench: &mut Bench) {
-    let told = Fault { place: crate::place::Place { line: 1, ..fault.place }, ..fault.clone() };
-    let file = format!("line {}", fault.place.line);
-    let _ = write!(bench.err, "{}", told.within(&file, line));
 }

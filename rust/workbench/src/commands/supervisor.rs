@@ -48,7 +48,11 @@ fn described(states: &States, state: usize) -> String {
     if !copies.is_empty() {
         text = format!("{text}; proposal {}", copies.join(", "));
     }
-    if text.is_empty() { text } else { format!(": {text}") }
+    if text.is_empty() {
+        text
+    } else {
+        format!(": {text}")
+    }
 }
 
 fn write_inputs(

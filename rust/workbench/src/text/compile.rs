@@ -45,7 +45,7 @@ pub fn judge(draft: &Draft, end: Place, found: &mut Findings) -> Named {
     let fits = judge_size(draft, &named.sheet, found);
     named.sheet.horizon = judge_horizon(draft, &named.sheet, found);
     named.sheet.match_weight = judge_match(draft, mode, found);
-    named.sheet.prefer = judge_order(draft, &named.names.lines_out, found);
+    named.sheet.prefer = judge_order(draft, found);
     // Without all lines, or with too many, conditions cannot be held against the letters.
     let faulty = |line: &str| draft.faulty.iter().any(|faulty| faulty == line);
     let whole = |list: &Option<(Vec<Word>, Place)>, kept: &[Word]| {
@@ -102,11 +102,8 @@ pub fn judge_distinct(words: &[Word], of: &str, found: &mut Findings) {
 /// Whether the guard has no more inputs and lines than it may.
 fn judge_size(draft: &Draft, sheet: &Sheet, found: &mut Findings) -> bool {
     let (inputs, outputs) = (usize::from(sheet.inputs()), usize::from(sheet.lines_out));
-    let place = [&draft.lines_out, &draft.lines_in]
-        .into_iter()
-        .flatten()
-        .next()
-        .map(|(_, place)| *place);
+    let place =
+        [&draft.lines_out, &draft.lines_in].into_iter().flatten().next().map(|(_, place)| *place);
     let Some(place) = place else { return true };
     let of = match sheet.mode {
         Mode::Controller => "",
@@ -129,7 +126,11 @@ fn judge_horizon(draft: &Draft, sheet: &Sheet, found: &mut Findings) -> u8 {
     if u16::from(inputs) * u16::from(horizon) > u16::from(HORIZON_MOST) {
         let what = format!("the horizon is {horizon}, of a guard with {inputs} inputs");
         let most = HORIZON_MOST / inputs;
-        found.faults.push(Fault::new(place, what, format!("at most {most}: inputs times horizon is at most {HORIZON_MOST}")));
+        found.faults.push(Fault::new(
+            place,
+            what,
+            format!("at most {most}: inputs times horizon is at most {HORIZON_MOST}"),
+        ));
     }
     horizon
 }
@@ -144,14 +145,15 @@ fn judge_match(draft: &Draft, mode: Mode, found: &mut Findings) -> u8 {
 }
 
 /// The order of preference: every line out once.
-fn judge_order(draft: &Draft, lines_out: &[String], found: &mut Findings) -> Vec<Literal> {
-    let (Some((order, place)), Some(_)) = (&draft.prefer, &draft.lines_out) else {
+fn judge_order(draft: &Draft, found: &mut Findings) -> Vec<Literal> {
+    let (Some((order, place)), Some((lines_out, _))) = (&draft.prefer, &draft.lines_out) else {
         return Vec::new();
     };
+    let lines_out: Vec<&str> = lines_out.iter().map(|word| word.text.as_str()).collect();
     let expected = format!("every line out once: {}", lines_out.join(", "));
     let mut literals: Vec<Literal> = Vec::new();
     for (word, on) in order {
-        let Some(line) = lines_out.iter().position(|line| *line == word.text) else {
+        let Some(line) = lines_out.iter().position(|&line| line == word.text) else {
             let what = format!("there is no line out `{}`", word.text);
             found.faults.push(Fault::new(word.place, what, &expected));
             continue;

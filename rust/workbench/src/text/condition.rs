@@ -74,7 +74,8 @@ impl Condition {
             }
         } else {
             let reads = |word: &Word| word.is_free_name() || word.is("sound") || word.is("differ");
-            let name = line.take_if(reads).ok_or_else(|| line.unlike("the name of a line, `!` or `(`"))?;
+            let name =
+                line.take_if(reads).ok_or_else(|| line.unlike("the name of a line, `!` or `(`"))?;
             self.0.push(Part::Line(name));
         }
         Ok(())

@@ -1,9 +1,9 @@
 //! A text sheet as its statements put it together, before anything in it is judged.
 
-use guard::sheet::Mode;
+use guard::sheet::{Mode, Role};
 
 use super::statement::{Head, Opening, State, Statement, When};
-use super::words::Word;
+use super::words::{Word, STATEMENTS};
 use crate::place::{Fault, Place};
 
 /// A state with its transitions.
@@ -45,6 +45,10 @@ impl Draft {
                 self.monitors.push(DraftMonitor { opening, place, states: Vec::new() });
             }
             Statement::State(opening) => {
+                if self.monitors.is_empty() && self.misses_opening() {
+                    let opening = Opening { role: Role::Hard, name: None, weight: 0 };
+                    self.monitors.push(DraftMonitor { opening, place, states: Vec::new() });
+                }
                 let Some(monitor) = self.monitors.last_mut() else {
                     let expected = "`hard NAME`, `soft NAME weight N` or `limit NAME` above it";
                     return Err(Fault::new(place, "a state of no monitor", expected));
@@ -63,12 +67,21 @@ impl Draft {
         Ok(())
     }
 
+    /// Whether a line that could not be read may have been the opening of a monitor.
+    fn misses_opening(&self) -> bool {
+        self.faulty.iter().any(|word| !STATEMENTS.contains(&word.as_str()))
+    }
+
     fn last_state(&mut self) -> Option<&mut DraftState> {
         self.monitors.last_mut()?.states.last_mut()
     }
 
     fn add_transition(&mut self, when: When, to: Word, place: Place) -> Result<(), Fault> {
+        let missed = self.misses_opening();
         let Some(state) = self.last_state() else {
+            if missed {
+                return Ok(());
+            }
             return Err(Fault::new(place, "a transition of no state", "`state NAME` above it"));
         };
         if matches!(state.transitions.last(), Some((When::Else, ..))) {
@@ -84,20 +97,21 @@ impl Draft {
             let what = "a line of the head after a monitor";
             return Err(Fault::new(place, what, "it before the first monitor"));
         }
-        let earlier = match head {
-            Head::Mode(mode) => self.mode.replace((mode, place)).map(|was| was.1),
-            Head::In(names) => self.lines_in.replace((names, place)).map(|was| was.1),
-            Head::Out(names) => self.lines_out.replace((names, place)).map(|was| was.1),
-            Head::Horizon(horizon, at) => self.horizon.replace((horizon, at)).map(|was| was.1),
-            Head::Match(weight) => self.match_weight.replace((weight, place)).map(|was| was.1),
-            Head::Prefer(order) => self.prefer.replace((order, place)).map(|was| was.1),
+        let (word, earlier) = match head {
+            Head::Mode(mode) => ("mode", put(&mut self.mode, mode, place)),
+            Head::In(names) => ("in", put(&mut self.lines_in, names, place)),
+            Head::Out(names) => ("out", put(&mut self.lines_out, names, place)),
+            Head::Horizon(horizon, at) => ("horizon", put(&mut self.horizon, horizon, at)),
+            Head::Match(weight) => ("match", put(&mut self.match_weight, weight, place)),
+            Head::Prefer(order) => ("prefer", put(&mut self.prefer, order, place)),
         };
-        match earlier {
-            None => Ok(()),
-            Some(earlier) => {
-                let what = format!("this is said a second time, after line {}", earlier.line);
-                Err(Fault::new(place, what, "each line of the head once"))
-            }
-        }
+        let Some(earlier) = earlier else { return Ok(()) };
+        let what = format!("a second line `{word}`, after line {}", earlier.line);
+        Err(Fault::new(place, what, "each line of the head once"))
     }
+}
+
+/// Puts a value in its place, and tells where one stood before.
+fn put<T>(slot: &mut Option<(T, Place)>, value: T, place: Place) -> Option<Place> {
+    slot.replace((value, place)).map(|(_, earlier)| earlier)
 }

@@ -70,7 +70,8 @@ impl Line {
     pub fn number(&mut self, what: &str, least: u8, most: u8) -> Result<(u8, Place), Fault> {
         let expected = format!("a number from {least} to {most}");
         let place = self.place();
-        let word = self.take_if(|word| word.kind == Kind::Number).ok_or_else(|| self.unlike(&expected))?;
+        let word =
+            self.take_if(|word| word.kind == Kind::Number).ok_or_else(|| self.unlike(&expected))?;
         match word.text.parse::<u8>() {
             Ok(number) if (least..=most).contains(&number) => Ok((number, place)),
             _ => Err(Fault::new(place, format!("{what} is {}", word.text), expected)),

@@ -8,7 +8,7 @@ use super::draft::{DraftMonitor, DraftState};
 use super::statement::When;
 use super::words::Word;
 use crate::names::setting;
-use crate::place::Fault;
+use crate::place::{Fault, Place};
 
 const STATES_MOST: usize = 32;
 
@@ -89,9 +89,7 @@ fn judge_state(
                 known &= !judge_names(condition.unknown(lines), lines, found);
                 let holds = condition.letters(lines);
                 if holds & left == 0 && known {
-                    let what = "this condition never decides: those above it take its letters";
-                    let what = if holds == 0 { "this condition never holds" } else { what };
-                    found.warnings.push(Fault::new(*place, what, "one that holds for some letter left"));
+                    found.warnings.push(idle(*place, holds));
                 }
                 holds
             }
@@ -106,6 +104,15 @@ fn judge_state(
         found.faults.push(uncovered(state, left, lines));
     }
     row
+}
+
+/// What is said of a condition that decides nothing.
+fn idle(place: Place, holds: Letters) -> Fault {
+    let what = match holds {
+        0 => "warning: this condition never holds",
+        _ => "warning: the conditions above this one take all its letters",
+    };
+    Fault::new(place, what, "a condition that holds for a letter that is left")
 }
 
 /// Whether there are such names; a fault for each.

@@ -69,7 +69,9 @@ fn write_row(text: &mut String, row: &[u8], states: &[String], lines: &[String])
     for (letter, &next) in row.iter().enumerate() {
         *ways.entry(next).or_default() |= 1 << letter;
     }
-    let most = ways.iter().max_by_key(|(_, letters)| letters.count_ones()).map(|(&next, _)| next);
+    // Of several the first: `max_by_key` gives the last.
+    let most = ways.iter().rev().max_by_key(|(_, letters)| letters.count_ones());
+    let most = most.map(|(&next, _)| next);
     for (&next, &letters) in ways.iter().filter(|(&next, _)| Some(next) != most) {
         writeln!(text, "    {} -> {}", condition(letters, lines), states[usize::from(next)])?;
     }

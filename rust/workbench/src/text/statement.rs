@@ -153,7 +153,10 @@ fn read_head(line: &mut Line, keyword: &str) -> Result<Head, Fault> {
 }
 
 /// One or more, separated by blanks or commas.
-fn read_list<T>(line: &mut Line, read: impl Fn(&mut Line) -> Result<T, Fault>) -> Result<Vec<T>, Fault> {
+fn read_list<T>(
+    line: &mut Line,
+    read: impl Fn(&mut Line) -> Result<T, Fault>,
+) -> Result<Vec<T>, Fault> {
     let mut list = vec![read(line)?];
     while line.take(",") || line.peek().is_some() {
         list.push(read(line)?);

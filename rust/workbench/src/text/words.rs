@@ -4,10 +4,30 @@ use crate::place::{Fault, Place};
 
 /// The words that name nothing.
 pub const RESERVED: [&str; 23] = [
-    "mode", "controller", "shield", "in", "out", "horizon", "match", "prefer", "hard", "soft",
-    "limit", "weight", "state", "start", "accept", "else", "sound", "differ",
+    "mode",
+    "controller",
+    "shield",
+    "in",
+    "out",
+    "horizon",
+    "match",
+    "prefer",
+    "hard",
+    "soft",
+    "limit",
+    "weight",
+    "state",
+    "start",
+    "accept",
+    "else",
+    "sound",
+    "differ",
     // The lines that `guard run` takes beside inputs, and those that a board will.
-    "load", "unload", "rewind", "mark", "recall",
+    "load",
+    "unload",
+    "rewind",
+    "mark",
+    "recall",
 ];
 
 /// The words that a statement begins with: a text that has one of them is taken for a text sheet.

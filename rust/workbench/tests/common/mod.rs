@@ -28,8 +28,7 @@ pub fn guard(words: &[&str], input: &[u8]) -> Done {
     let words: Vec<String> = words.iter().map(|word| word.to_string()).collect();
     let (mut out, mut err) = (Vec::new(), Vec::new());
     let mut input = input;
-    let mut bench =
-        Bench { input: &mut input, out: &mut out, err: &mut err, terminal: false };
+    let mut bench = Bench { input: &mut input, out: &mut out, err: &mut err, terminal: false };
     let status = match commands::dispatch(&words, &mut bench) {
         Ok(()) => 0,
         Err(stop) => {
