@@ -2,6 +2,7 @@
 // A slice crosses as a pointer and a length, a board as its 16 bytes, an answer as document 01's number.
 use board_bytes::numbers::report;
 use guard::make::Guard;
+use report::Report;
 use supervisor::make::Supervisor;
 ghost use mathlib.Core.Path.{_≡_};
 ghost use mathlib.Core.List.{[], _∷_};
@@ -10,7 +11,7 @@ ghost use lib.ListN.{length};
 ghost use Rattle.records.specs.Meaning.Numbers.{zeros};
 ghost use Rattle.board_bytes.specs.Meaning.BoardBytes.{boardLength};
 ghost use Rattle.board_bytes.specs.Promises.ByteCalls.{LoadCall, StepCall, RewindCall, UnloadCall};
-ghost use Rattle.hundlezoqa_c.specs.Promises.Library.{ReportsSupervisor, ReportsGuard};
+ghost use Rattle.hundlezoqa_c.specs.Promises.Library.{ReportsSupervisor, ReportsGuard, ReportsListing};
 
 // Makes a supervisor table.
 #[no_mangle]
@@ -118,4 +119,16 @@ pub extern "C" fn hz_unload(board: &mut [u8]) -> u32
     ensures { λ r. ⌜ UnloadCall (now (board .entry)) r (now (board .exit)) ⌝ }
 {
     board_bytes::unload(board)
+}
+
+// Lists a guard table as text.
+#[no_mangle]
+pub extern "C" fn hz_list(table: &[u8], text: &mut [u8], figures: &mut [u64]) -> u32
+    requires { ⌜ 1 ≤ length (now figures) ⌝ }
+    ensures { λ r. ⌜
+        ReportsListing (now (table .entry)) (now (text .entry)) (now (text .exit)) r (now (figures .entry)) (now (figures .exit)) ⌝ }
+{
+    let listed = Report::list(table, text);
+    figures[0] = listed.length() as u64;
+    listed.number()
 }

@@ -3,12 +3,10 @@ use guard::make::Guard;
 use guard_table::layout::Layout;
 use libc::STDIN_FILENO;
 use libc::STDOUT_FILENO;
-use report::Listed;
 use report::Report;
-ghost use mathlib.Core.Path.{_≡_};
 ghost use Prim.Native.Nat.{_≤_};
 ghost use lib.ListN.{length};
-ghost use Rattle.report.specs.Promises.Report.{textLength, listedLength};
+ghost use Rattle.report.specs.Promises.Report.{textLength};
 ghost use Rattle.listing.specs.Promises.Printed.{PrintsSheet, PrintsGuard};
 
 // The bytes of a sheet that is not too long, and one more, up to which it is read.
@@ -34,7 +32,7 @@ fn print(sheet: &[u8], text: &mut [u8]) -> usize
     ensures { λ r. ⌜ PrintsSheet (now (sheet .entry)) (now (text .entry)) r (now (text .exit)) ⌝ }
 {
     if Listing::SHEET < sheet.len() {
-        return written(Report::too_long(text));
+        return Report::too_long(text).length();
     }
     print_guard(sheet, text)
 }
@@ -67,16 +65,5 @@ fn print_guard(sheet: &[u8], text: &mut [u8]) -> usize
         &mut order,
         &mut numbers,
     );
-    written(Report::outcome(made, &result, text))
-}
-
-// The length of a text that was written.
-fn written(listed: Listed) -> usize
-    ensures { λ r. ⌜ r ≡ listedLength listed ⌝ }
-{
-    match listed {
-        Listed::Text(size) => size,
-        Listed::NoTable => 0,
-        Listed::ShortText => 0,
-    }
+    Report::outcome(made, &result, text).length()
 }

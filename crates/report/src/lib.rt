@@ -8,16 +8,41 @@ use listing_text::put_listing;
 use listing_text::put_word;
 use records::limits::Limits;
 use solve::made::Made;
+ghost use mathlib.Core.Path.{_≡_};
 ghost use mathlib.Core.Bool.{true};
 ghost use Rattle.guard_table.specs.Meaning.Loadable.{loadable};
 ghost use Rattle.listing_text.specs.Meaning.Listing.{listingOf, refusedText, tooLongText};
-ghost use Rattle.report.specs.Promises.Report.{outcomeDue, outcomeText, Writes};
+ghost use Rattle.report.specs.Promises.Report.{listedNumber, listedLength, outcomeDue, outcomeText, Writes};
 
 // What a writer of text answers: the bytes of its text, or why it wrote none.
 pub enum Listed {
     Text(usize),
     NoTable,
     ShortText,
+}
+
+impl Listed {
+    // Document 01's number, 0 for no refusal.
+    pub fn number(self) -> u32
+        ensures { λ r. ⌜ r ≡ listedNumber self ⌝ }
+    {
+        match self {
+            Listed::Text(_) => 0,
+            Listed::NoTable => 11,
+            Listed::ShortText => 9,
+        }
+    }
+
+    // The bytes of the text, 0 on a refusal.
+    pub fn length(self) -> usize
+        ensures { λ r. ⌜ r ≡ listedLength self ⌝ }
+    {
+        match self {
+            Listed::Text(size) => size,
+            Listed::NoTable => 0,
+            Listed::ShortText => 0,
+        }
+    }
 }
 
 // The writers of text. Each knows the length of its text before it writes any.

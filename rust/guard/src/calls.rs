@@ -14,6 +14,9 @@ pub const BOARD_BYTES: usize = 16;
 /// The figures that a maker reports: the table's length and its number of states, or zeros.
 pub const FIGURES: usize = 2;
 
+/// The figures that a listing reports: the text's length, or zero.
+pub const LISTING_FIGURES: usize = 1;
+
 /// Declares the library's functions, and where the library was not found their stand-ins.
 macro_rules! library {
     ($(fn $name:ident($($argument:ident: $type:ty),* $(,)?) -> $answer:ty;)*) => {
@@ -62,6 +65,11 @@ library! {
     ) -> u32;
     fn hz_rewind(board: *mut u8, board_len: usize) -> u32;
     fn hz_unload(board: *mut u8, board_len: usize) -> u32;
+    fn hz_list(
+        table: *const u8, table_len: usize,
+        text: *mut u8, text_len: usize,
+        figures: *mut u64, figures_len: usize,
+    ) -> u32;
 }
 
 /// Makes a supervisor table; `work` lends tuples, cells and dropped.
@@ -166,4 +174,22 @@ pub fn unload(board: &mut [u8; BOARD_BYTES]) -> u32 {
     // SAFETY: `board` is exclusive, and valid for reads and writes of the 16 bytes asked for, which
     // its type has. Any values may stand in them.
     unsafe { hz_unload(board.as_mut_ptr(), board.len()) }
+}
+
+/// Lists a guard table at the start of the text memory.
+pub fn list(table: &[u8], text: &mut [u8], figures: &mut [u64; LISTING_FIGURES]) -> u32 {
+    // SAFETY: `table` is valid for reads of its length. `text` and `figures` are each valid for reads
+    // and writes of their own length, and exclusive, so that no two of the three overlap. The one
+    // length asked for is that of the figures, at least 1, and `LISTING_FIGURES` is 1; a slice that
+    // is no table and shorter text memory are refused.
+    unsafe {
+        hz_list(
+            table.as_ptr(),
+            table.len(),
+            text.as_mut_ptr(),
+            text.len(),
+            figures.as_mut_ptr(),
+            figures.len(),
+        )
+    }
 }

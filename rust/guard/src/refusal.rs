@@ -21,7 +21,7 @@ pub enum Refusal {
     TooManyStates,
     /// 8: the start is not kept.
     Unrealizable,
-    /// 9: the result memory is shorter than the table.
+    /// 9: the result memory is shorter than the table, or the text memory than the listing.
     ShortResult,
     /// 10: a slice of work memory is shorter than its constant.
     ShortWork,

@@ -1,6 +1,6 @@
-use crate::calls::{self, FIGURES};
+use crate::calls::{self, FIGURES, LISTING_FIGURES};
 use crate::work::{INPUTS_MOST, STATES_MOST};
-use crate::{Refusal, Work};
+use crate::{Board, Refusal, Work};
 
 const HEADER: usize = 4;
 
@@ -101,7 +101,8 @@ impl AsRef<[u8]> for Supervisor {
     }
 }
 
-/// A guard table: for each guard state and input the output and the next state.
+/// A guard table: for each guard state and input the output and the next state. Every value is a
+/// table that a board loads.
 #[derive(Clone, Debug, PartialEq, Eq, Hash)]
 pub struct Guard {
     bytes: Vec<u8>,
@@ -110,6 +111,8 @@ pub struct Guard {
 impl Guard {
     /// The length of the longest table.
     pub const BYTES_MOST: usize = Guard::HEAD + STATES_MOST * (HEADER + 2 * INPUTS_MOST);
+    /// No listing is longer: at most 41 bytes for its first line, and 101 for the line of a state.
+    pub const LISTING_BYTES_MOST: usize = 41 + 101 * STATES_MOST;
     const HEAD: usize = HEADER + 6;
 
     /// Makes the table of a sheet.
@@ -124,6 +127,25 @@ impl Guard {
     pub fn make_into(sheet: &[u8], result: &mut [u8], work: &mut Work) -> Result<Made, Refusal> {
         let mut figures = [0; FIGURES];
         made(calls::make_guard(sheet, result, work, &mut figures), figures)
+    }
+
+    /// A table by its bytes, one that was stored say. Refused exactly as an empty board refuses to
+    /// load it: [`Refusal::BadTable`].
+    pub fn from_bytes(bytes: impl Into<Vec<u8>>) -> Result<Guard, Refusal> {
+        let bytes = bytes.into();
+        Board::new().load(&bytes)?;
+        Ok(Guard { bytes })
+    }
+
+    /// The table as text: a line for the head, then one for each state with output>next state by
+    /// input. No guard is refused by the library that this crate was written for.
+    pub fn listing(&self) -> Result<String, Refusal> {
+        let mut text = vec![0; Guard::LISTING_BYTES_MOST];
+        let mut figures = [0; LISTING_FIGURES];
+        Refusal::check(calls::list(&self.bytes, &mut text, &mut figures))?;
+        text.truncate(figures[0] as usize);
+        // Each byte is a character of its own: a listing is ASCII.
+        Ok(text.into_iter().map(char::from).collect())
     }
 
     /// The table, as a board loads it.

@@ -1,8 +1,14 @@
--- What the makers promise to programs in other languages: an answer as the maker below promises it, reported by number and
--- figures. The board's calls promise what crate `board_bytes` does.
+-- What the makers and the listing promise to programs in other languages: an answer as the call below promises it, reported by
+-- number and figures. The board's calls promise what crate `board_bytes` does.
 -- Assumes nothing.
-use mathlib.Core.List.{List}
+use mathlib.Core.Path.{_≡_}
+use mathlib.Core.List.{List, [], _∷_}
 use Prim.Native.Nat.{ℕ}
+use lib.Seq.{sets}
+use Rattle.guard_table.specs.Meaning.Loadable.{loadable}
+use Rattle.listing_text.specs.Meaning.Listing.{listingOf}
+use Rattle.report.specs.Promises.Report.{listedNumber, listedLength, Writes}
+use Rattle.report.specs.declared.Listed.{Listed}
 use Rattle.supervisor.specs.Promises.SupervisorMaker.{MakesSupervisor}
 use Rattle.guard.specs.Promises.GuardMaker.{MakesGuard}
 use Rattle.board_bytes.specs.Promises.ByteCalls.{Reports}
@@ -13,3 +19,11 @@ ReportsSupervisor s before lent after = Reports (λ made. MakesSupervisor s befo
 
 abbrev pub ReportsGuard : List ℕ → List ℕ → List ℕ → List ℕ → ℕ → List ℕ → List ℕ → Type 0
 ReportsGuard s before lent after = Reports (λ made. MakesGuard s before lent made after)
+
+-- the listing of the table t; `before` and `after` are the text memory, the one figure is the length of the text
+pub record ReportsListing (t before after : List ℕ) (r : ℕ) (old new : List ℕ) : Type 0 where
+  pub listed : Listed
+  pub promised : Writes (loadable t) (listingOf t) before listed after
+  pub number : r ≡ listedNumber listed
+  -- then the old rest
+  pub figures : new ≡ sets old 0 (listedLength listed ∷ [])

@@ -9,7 +9,7 @@ use Rattle.listing.proofs.print_guard.Statement.{statement}
 use Rattle.listing.proofs.print_guard.Tie as tie
 
 -- the places that the promise looks back to
-abbrev reported : tie.After-written → tie.After-outcome
+abbrev reported : tie.After-length → tie.After-outcome
 reported c = c .before .before .before
 
 abbrev made : tie.After-outcome → tie.After-make
@@ -57,8 +57,8 @@ slice-aggregate-outcome c = search needs
 outcome-requires : tie.Need-outcome-requires
 outcome-requires c κs = search needs
 
-written-requires : tie.Need-written-requires
-written-requires c κs = search needs
+length-requires : tie.Need-length-requires
+length-requires c κs = search needs
 
 same-length : tie.Need-same-length
 same-length c = search needs
@@ -70,7 +70,7 @@ returns c =
     let done = made told in
     outcome-prints {lent = exactly guardWork} (done .make .ensures .0) (λ k. omega (arith, entered done .shared-slice-known .given k))
     refl (refl {a = exactly guardWork})
-    (omega (arith, entered done .before .pre)) (told .outcome .ensures) (c .written .ensures)
+    (omega (arith, entered done .before .pre)) (told .outcome .ensures) (c .length .ensures)
 
 pub print-guard-spec : {M : Type 1} → statement M
 print-guard-spec =
@@ -89,6 +89,6 @@ print-guard-spec =
     make-requires
     slice-aggregate-outcome
     outcome-requires
-    written-requires
+    length-requires
     same-length
     returns)
