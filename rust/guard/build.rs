@@ -23,6 +23,8 @@ fn main() {
     } else if named.is_some() {
         println!("cargo::error=GUARD_STATICLIB: no {}", archive.display());
     } else {
+        // No such file ever: the script runs at each build, and finds an archive of whatever age.
+        println!("cargo::rerun-if-changed={}", folder.join("none").display());
         println!(
             "cargo::warning=no target/staticlib/libhundlezoqa_c.a: built without the proved library, every call \
              of it panics; `tools/library` makes it (in minutes), then build again"
