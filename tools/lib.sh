@@ -19,7 +19,7 @@ stop() {
 # A tool's help is the comment at its head.
 help() { sed -n '/^#!/d; /^#/!q; s/^# \{0,1\}//p' "$self"; }
 
-# What a refusal's number means, in the words of rust/guard/src/refusal.rs (conformance/tests/words.rs compares them).
+# What a refusal's number means, in the words of rust/guard/src/refusal.rs (conformance/tests/refusals.rs compares).
 ground() {
     case $1 in
     1) echo "a record is cut" ;;
@@ -47,7 +47,10 @@ readable() {
 # as long as a process has descriptor 9, and is passed on to the tools that a tool calls by GUARD_LOCK.
 lock() {
     [ "${GUARD_LOCK:-}" != "$root" ] || return 0
-    command -v flock >/dev/null || stop 2 "flock is not installed"
+    command -v flock >/dev/null || {
+        say "flock is not installed: nothing keeps two checks or builds at once apart"
+        return
+    }
     exec 9<"$root/crates"
     flock -n 9 || {
         say "waiting for another check or build in $root"
