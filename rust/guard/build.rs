@@ -1,5 +1,6 @@
 //! Finds the archive that `rt staticlib hundlezoqa_c` writes: in the folder that GUARD_STATICLIB names, or
-//! in target/staticlib of the repository. Without it the crate builds too, and its calls panic.
+//! in target/staticlib of the repository. Without it the crate builds too, with a warning, and its calls
+//! panic.
 
 use std::env;
 use std::path::PathBuf;
@@ -21,5 +22,12 @@ fn main() {
         println!("cargo::metadata=linked=1");
     } else if named.is_some() {
         println!("cargo::error=GUARD_STATICLIB: no {}", archive.display());
+    } else {
+        // No such file ever: the script runs at each build, and finds an archive of whatever age.
+        println!("cargo::rerun-if-changed={}", folder.join("none").display());
+        println!(
+            "cargo::warning=no target/staticlib/libhundlezoqa_c.a: built without the proved library, every call \
+             of it panics; `tools/library` makes it (in minutes), then build again"
+        );
     }
 }

@@ -52,3 +52,16 @@ fn rattle_has_the_same_names_and_numbers() {
     }
     assert_eq!(names.into_iter().collect::<Vec<_>>(), of_wrapper());
 }
+
+#[test]
+fn the_tools_say_a_maker_s_refusals_in_the_wrapper_s_words() {
+    let tools = Path::new(concat!(env!("CARGO_MANIFEST_DIR"), "/../../tools/lib.sh"));
+    let tools = fs::read_to_string(tools).expect("the tools' shared file is there");
+    let said = tools.lines().filter_map(|line| {
+        let (number, words) = line.trim().split_once(") echo \"")?;
+        number.parse::<u32>().ok()?;
+        Some(format!("refused {number}: {}", words.strip_suffix("\" ;;")?))
+    });
+    let makers = guard::Refusal::NAMED.into_iter().filter(|refusal| refusal.number() <= 10);
+    assert_eq!(said.collect::<Vec<_>>(), makers.map(|r| r.to_string()).collect::<Vec<_>>());
+}

@@ -1,0 +1,147 @@
+/* Hundlezoqa: guard tables made and run by proved functions. For C99 and C++; the library is
+ * target/staticlib/libhundlezoqa_c.a (tools/library makes it), x86-64 code for the System V calling convention.
+ *
+ * Each function is proved to do what is said here FOR THE ARGUMENTS THAT IT ASKS FOR, and C checks none of that:
+ *
+ * - A pointer and the length after it, in elements, are memory that may be read over that length, and where the pointer
+ *   is not to const, written. It is aligned for its type. Where the length is 0 it is not null either.
+ * - No two memories of a call overlap, be they written or only read.
+ * - No memory of a call is read or written by another thread while the call lasts.
+ * - A length of which it is said that it MUST be something is that, or anything may happen. Every other length may be
+ *   anything; one that is too short is refused.
+ *
+ * Any values may stand in the memory: a wrong sheet, table, board or input is refused. A function answers HZ_OK or the number of a
+ * refusal, and of several grounds the one that is named first. It always ends. It keeps no pointer and no state of its
+ * own, so that threads may call at once, each with its own memory. Of the C library it needs memcpy and memset.
+ *
+ * rust/conformance/tests/header.rs holds the numbers and lengths below against the Rust wrapper's. */
+
+#ifndef HUNDLEZOQA_H
+#define HUNDLEZOQA_H
+
+#include <stddef.h>
+#include <stdint.h>
+
+#ifdef __cplusplus
+extern "C" {
+#endif
+
+/* Answers. */
+
+#define HZ_OK 0               /* not refused */
+#define HZ_TRUNCATED 1        /* sheet: one to three bytes left for a record, or its body runs past the end */
+#define HZ_MISPLACED 2        /* sheet: no record, the first not a head, a second head, or an unknown kind */
+#define HZ_BAD_HEAD 3         /* sheet: the head's length or a field of it is wrong, the horizon aside */
+#define HZ_BAD_MONITOR 4      /* sheet: a monitor's length or a field of it is wrong */
+#define HZ_SEVENTH_MONITOR 5  /* sheet: a seventh monitor */
+#define HZ_LONG_HORIZON 6     /* sheet: the horizon, or inputs times the horizon, above 24 */
+#define HZ_TOO_MANY_STATES 7  /* sheet: more than 256 product states */
+#define HZ_UNREALIZABLE 8     /* sheet: what must hold cannot be kept from the start on */
+#define HZ_SHORT_RESULT 9     /* the result (or text) memory is shorter than the table (or text) */
+#define HZ_SHORT_WORK 10      /* a slice of work memory is shorter than its HZ_WORK_ length */
+#define HZ_BAD_TABLE 11       /* not a guard table that can be loaded, or not like the board's */
+#define HZ_BAD_INPUT 12       /* the input is not below 2^inputs */
+#define HZ_EMPTY 20           /* the board is empty */
+#define HZ_OCCUPIED 21        /* the board is loaded */
+#define HZ_SPENT 22           /* 1,000,000 steps were taken since the load or rewind */
+
+/* Lengths that are always enough, in bytes. */
+
+#define HZ_SUPERVISOR_BYTES_MOST 5385 /* a supervisor table */
+#define HZ_GUARD_BYTES_MOST 9226      /* a guard table */
+#define HZ_LISTING_BYTES_MOST 25897   /* a listing */
+
+/* Work memory: the least lengths, in elements. The first three are the supervisor's, all nine the guard's: 37,906 and
+ * 43,666 bytes. It may hold anything before a call; after it, refused or not, all that was lent is zero. */
+
+#define HZ_WORK_TUPLES 256   /* uint64_t */
+#define HZ_WORK_CELLS 16384  /* uint16_t */
+#define HZ_WORK_DROPPED 1545 /* uint16_t */
+#define HZ_WORK_GAINS 256    /* uint16_t */
+#define HZ_WORK_BONUSES 64   /* uint16_t */
+#define HZ_WORK_VALUES 256   /* uint64_t */
+#define HZ_WORK_ARRIVALS 256 /* uint64_t */
+#define HZ_WORK_ORDER 256    /* uint16_t */
+#define HZ_WORK_NUMBERS 256  /* uint16_t */
+
+/* The figures that the makers report, in elements; hz_list reports one. */
+
+#define HZ_FIGURES 2
+
+/* A board is 16 bytes, numbers little-endian. All zero is an empty board; so is any other whose fields do not fit
+ * together, and a call never needs a board to be anything.
+ *
+ *   0       loaded: 1; any other byte is not loaded
+ *   1       mode of the table: 0 controller, 1 shield
+ *   2, 3    input and output lines
+ *   4, 5    states of the table
+ *   6, 7    place: the state that the run is in
+ *   8..11   steps since the load or rewind
+ *   12..15  deviations: in mode 1, at how many of them the output was not the proposal */
+
+#define HZ_BOARD_BYTES 16
+
+/* Makes the supervisor table of a sheet's bytes at the start of `result`.
+ *
+ * figures_len MUST be at least HZ_FIGURES.
+ * HZ_OK: figures[0] is the table's length in bytes, figures[1] its number of states; the rest of `result` is as it was.
+ * Refused: both figures are 0, `result` is as it was. HZ_SHORT_WORK, then the sheet's HZ_TRUNCATED to
+ * HZ_LONG_HORIZON, record by record, then HZ_TOO_MANY_STATES, HZ_UNREALIZABLE, HZ_SHORT_RESULT.
+ * Further figures are left alone. Work memory is zero afterwards, over all the length that was lent. */
+uint32_t hz_make_supervisor(const uint8_t *sheet, size_t sheet_len,
+                            uint8_t *result, size_t result_len,
+                            uint64_t *tuples, size_t tuples_len,
+                            uint16_t *cells, size_t cells_len,
+                            uint16_t *dropped, size_t dropped_len,
+                            uint64_t *figures, size_t figures_len);
+
+/* Makes the guard table, which a board runs by. All is as of hz_make_supervisor: figures_len MUST be at least
+ * HZ_FIGURES. */
+uint32_t hz_make_guard(const uint8_t *sheet, size_t sheet_len,
+                       uint8_t *result, size_t result_len,
+                       uint64_t *tuples, size_t tuples_len,
+                       uint16_t *cells, size_t cells_len,
+                       uint16_t *dropped, size_t dropped_len,
+                       uint16_t *gains, size_t gains_len,
+                       uint16_t *bonuses, size_t bonuses_len,
+                       uint64_t *values, size_t values_len,
+                       uint64_t *arrivals, size_t arrivals_len,
+                       uint16_t *order, size_t order_len,
+                       uint16_t *numbers, size_t numbers_len,
+                       uint64_t *figures, size_t figures_len);
+
+/* The calls on a board: board_len MUST be exactly HZ_BOARD_BYTES. A refused call changes no byte of the board. A table's length is
+ * exactly what the maker said: of a longer slice the call is refused. */
+
+/* Loads a guard table and begins a run. Refused: HZ_OCCUPIED, HZ_BAD_TABLE. The board holds no pointer to the table:
+ * every step is lent it. */
+uint32_t hz_load(uint8_t *board, size_t board_len, const uint8_t *table, size_t table_len);
+
+/* Answers an input by an output and moves on, by the table that was loaded. The answer has the number in its low 16
+ * bits and the output above: number + 65536 * output; on a refusal the output is 0. Refused: HZ_EMPTY, HZ_SPENT,
+ * HZ_BAD_INPUT, HZ_BAD_TABLE. */
+uint32_t hz_step(uint8_t *board, size_t board_len, const uint8_t *table, size_t table_len, uint8_t input);
+
+#define HZ_STEP_NUMBER(answer) ((uint32_t)(answer) & 0xFFFFu)
+#define HZ_STEP_OUTPUT(answer) ((uint32_t)(answer) >> 16)
+
+/* Begins the run anew. Refused: HZ_EMPTY. */
+uint32_t hz_rewind(uint8_t *board, size_t board_len);
+
+/* Empties the board. Refused: HZ_EMPTY. */
+uint32_t hz_unload(uint8_t *board, size_t board_len);
+
+/* Writes the listing of a guard table, as tools/list prints it, at the start of `text`; no zero byte ends it.
+ *
+ * figures_len MUST be at least 1.
+ * HZ_OK: figures[0] is the text's length in bytes; the rest of `text` is as it was.
+ * Refused: figures[0] is 0, `text` is as it was. HZ_BAD_TABLE, HZ_SHORT_RESULT. Further figures are left alone. */
+uint32_t hz_list(const uint8_t *table, size_t table_len,
+                 uint8_t *text, size_t text_len,
+                 uint64_t *figures, size_t figures_len);
+
+#ifdef __cplusplus
+}
+#endif
+
+#endif

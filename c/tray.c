@@ -1,0 +1,91 @@
+/* A tray lock: one line in (a tray is there), one line out (open). It is never open twice running, and open with a tray
+ * if that can be. Makes the guard of this sheet, lists it, and runs it on a board; all memory is static. c/README.md says how to
+ * build it. */
+
+#include <stdint.h>
+#include <stdio.h>
+
+#include "hundlezoqa.h"
+
+#define LENGTH(array) (sizeof(array) / sizeof((array)[0]))
+
+/* sheets/A.hex */
+static const uint8_t sheet[] = {
+    0x06, 0x00, 0x01, 0x00, 0, 1, 1, 1, 0, 0, /* head: controller, lines 1 and 1, horizon 1, on preferred */
+    0x13, 0x00, 0x02, 0x00, 0, 0, 3, 0, 1, 1, 0, /* hard: never open twice running */
+    0, 0, 1, 1, 0, 0, 2, 2, 2, 2, 2, 2,
+    0x0E, 0x00, 0x02, 0x00, 1, 3, 2, 0, 0, 1, /* soft, weight 3: open exactly with a tray */
+    1, 0, 0, 1, 1, 0, 0, 1
+};
+
+static uint8_t table[HZ_GUARD_BYTES_MOST];
+static uint8_t text[HZ_LISTING_BYTES_MOST];
+static uint8_t board[HZ_BOARD_BYTES]; /* all zero: empty */
+
+static uint64_t tuples[HZ_WORK_TUPLES];
+static uint16_t cells[HZ_WORK_CELLS];
+static uint16_t dropped[HZ_WORK_DROPPED];
+static uint16_t gains[HZ_WORK_GAINS];
+static uint16_t bonuses[HZ_WORK_BONUSES];
+static uint64_t values[HZ_WORK_VALUES];
+static uint64_t arrivals[HZ_WORK_ARRIVALS];
+static uint16_t order[HZ_WORK_ORDER];
+static uint16_t numbers[HZ_WORK_NUMBERS];
+
+/* Says that a call was refused, and answers whether it was. */
+static int refused(const char *call, uint32_t number)
+{
+    if (number != HZ_OK)
+        printf("%s: refused %lu\n", call, (unsigned long)number);
+    return number != HZ_OK;
+}
+
+/* The steps of the run, from the board's bytes. */
+static unsigned long steps(void)
+{
+    return board[8] | (unsigned long)board[9] << 8 | (unsigned long)board[10] << 16 | (unsigned long)board[11] << 24;
+}
+
+int main(void)
+{
+    static const uint8_t trays[] = {1, 1, 1, 0, 1};
+    uint64_t figures[HZ_FIGURES];
+    size_t length, i;
+    uint32_t answer;
+
+    answer = hz_make_guard(sheet, LENGTH(sheet), table, LENGTH(table), tuples, LENGTH(tuples), cells, LENGTH(cells),
+                           dropped, LENGTH(dropped), gains, LENGTH(gains), bonuses, LENGTH(bonuses),
+                           values, LENGTH(values), arrivals, LENGTH(arrivals), order, LENGTH(order),
+                           numbers, LENGTH(numbers), figures, LENGTH(figures));
+    if (refused("hz_make_guard", answer))
+        return 1;
+    length = (size_t)figures[0];
+    printf("a guard of %lu states in %lu bytes\n", (unsigned long)figures[1], (unsigned long)length);
+
+    if (refused("hz_list", hz_list(table, length, text, LENGTH(text), figures, LENGTH(figures))))
+        return 1;
+    fwrite(text, 1, (size_t)figures[0], stdout);
+
+    if (refused("hz_load", hz_load(board, LENGTH(board), table, length)))
+        return 1;
+    for (i = 0; i < LENGTH(trays); i++) {
+        answer = hz_step(board, LENGTH(board), table, length, trays[i]);
+        /* A lock would be closed here: on a refusal there is no output to give. */
+        if (refused("hz_step", HZ_STEP_NUMBER(answer)))
+            return 1;
+        printf("tray %d: open %lu\n", trays[i], (unsigned long)HZ_STEP_OUTPUT(answer));
+    }
+    printf("%lu steps\n", steps());
+
+    /* One line has no input 2: the step is refused, and the board is as it was. */
+    answer = hz_step(board, LENGTH(board), table, length, 2);
+    if (HZ_STEP_NUMBER(answer) != HZ_BAD_INPUT)
+        return 1;
+    refused("hz_step", HZ_STEP_NUMBER(answer));
+    printf("%lu steps\n", steps());
+
+    if (refused("hz_unload", hz_unload(board, LENGTH(board))))
+        return 1;
+    refused("hz_rewind", hz_rewind(board, LENGTH(board))); /* nothing is loaded any more */
+    return 0;
+}
