@@ -1,7 +1,7 @@
 //! `guard check`: whether a sheet is accepted, and if not, why and where.
 
 use guard::{Guard, Refusal, Supervisor, Work};
-use reference::{Kept, Product, Sheet};
+use reference::{Fault, Kept, Product, Sheet};
 
 use super::Command;
 use crate::arguments::{Arguments, Options};
@@ -48,8 +48,7 @@ fn found(bytes: &[u8]) -> (u32, Option<String>) {
     let sheet = match Sheet::read(bytes) {
         Ok(sheet) => sheet,
         Err(fault) => {
-            let place = format!("record {}, byte {}: {}", fault.record, fault.byte, fault.what);
-            return (fault.refusal.number(), Some(place));
+            return (fault.refusal.number(), Some(place(&fault)));
         }
     };
     let number = match Product::explore(&sheet) {
@@ -58,6 +57,17 @@ fn found(bytes: &[u8]) -> (u32, Option<String>) {
         Ok(_) => 0,
     };
     (number, None)
+}
+
+/// Record, byte and words of a fault; record 0 is the head, and monitors are counted from 0.
+fn place(fault: &Fault) -> String {
+    let Fault { refusal, record, byte, what } = fault;
+    match refusal {
+        reference::Refusal::BadMonitor | reference::Refusal::SeventhMonitor => {
+            format!("record {record} (monitor {}), byte {byte}: {what}", record - 1)
+        }
+        _ => format!("record {record}, byte {byte}: {what}"),
+    }
 }
 
 fn refused(source: &Source, refusal: Refusal, bench: &mut Bench) -> Outcome {

@@ -1,0 +1,167 @@
+//! Each command as a person uses it: exit status, what goes where, files that appear whole or not at all.
+
+mod common;
+
+use common::{files, guard, repository, Folder};
+
+/// A sheet of the repository, as a word of a command.
+fn sheet(name: &str) -> String {
+    repository("sheets").join(name).to_str().expect("letters").to_string()
+}
+
+#[test]
+fn help_is_an_answer() {
+    let all = guard(&["--help"], b"");
+    assert_eq!((all.status, all.err.as_str()), (0, ""));
+    for command in ["compile", "show", "check", "list", "supervisor", "make", "dot", "run"] {
+        assert!(all.text().contains(&format!("guard {command} FILE")), "{command}");
+        let one = guard(&[command, "--help"], b"");
+        assert_eq!((one.status, one.err.as_str()), (0, ""));
+        assert!(one.text().starts_with(&format!("guard {command} FILE")), "{command}");
+    }
+}
+
+#[test]
+fn wrong_use_is_2() {
+    let a = sheet("A.hex");
+    let uses: [&[&str]; 12] = [
+        &[],
+        &["lists", &a],
+        &["list"],
+        &["list", &a, &a],
+        &["list", &a, "--supervisor"],
+        &["list", "-o", &a],
+        &["compile", &a, "-o"],
+        &["compile", &a, "-o", "x", "-o", "y"],
+        &["make", &a],
+        &["dot", &a, "--supervisr"],
+        &["run", "-"],
+        &["check", "--", "--help", "more"],
+    ];
+    for words in uses {
+        let done = guard(words, b"");
+        assert_eq!((done.status, done.out.len()), (2, 0), "{words:?}: {}", done.err);
+        assert!(done.err.starts_with("guard: "), "{words:?}: {}", done.err);
+    }
+}
+
+#[test]
+fn a_file_that_cannot_be_read_or_written_is_3() {
+    let folder = Folder::new("unreadable");
+    let (a, missing) = (sheet("A.hex"), folder.file("missing/it"));
+    let inside = folder.0.to_str().expect("letters");
+    let uses: [&[&str]; 5] = [
+        &["check", &missing],
+        &["check", inside],
+        &["check", "--", "--help"],
+        &["compile", &a, "-o", &missing],
+        &["compile", &a, "-o", inside],
+    ];
+    for words in uses {
+        let done = guard(words, b"");
+        assert_eq!((done.status, done.out.len()), (3, 0), "{words:?}: {}", done.err);
+    }
+    assert_eq!(std::fs::read_dir(&folder.0).expect("there").count(), 0, "something is left");
+}
+
+/// A faulty sheet leaves the file that was there; a sound one replaces it, nothing is left beside it.
+#[test]
+#[cfg_attr(not(guard_library), ignore = "needs the library: rt staticlib hundlezoqa_c")]
+fn files_appear_whole_or_not_at_all() {
+    let folder = Folder::new("whole");
+    let out = folder.file("out");
+    std::fs::write(&out, "before").expect("written");
+    let faulty = repository("rust/workbench/tests/faults/two_starts.sheet");
+    let faulty = faulty.to_str().expect("letters");
+    let unrealizable = sheet("P3.hex");
+    for words in [["compile", faulty, "-o", &out], ["make", &unrealizable, "-o", &out]] {
+        assert_eq!(guard(&words, b"").status, 1);
+        assert_eq!(std::fs::read(&out).expect("there"), b"before");
+    }
+    let a = sheet("A.hex");
+    for (words, table) in [
+        (vec!["compile", &a, "-o", &out], guard(&["compile", &a], b"").out),
+        (
+            vec!["make", &a, "-o", &out],
+            reference::guard_table(&guard(&["compile", &a], b"").out).expect("made"),
+        ),
+        (
+            vec!["make", "--supervisor", &a, "-o", &out],
+            reference::supervisor_table(&guard(&["compile", &a], b"").out).expect("made"),
+        ),
+    ] {
+        let done = guard(&words, b"");
+        assert_eq!((done.status, done.out.len()), (0, 0), "{}", done.err);
+        assert_eq!(std::fs::read(&out).expect("there"), table);
+    }
+    assert_eq!(std::fs::read_dir(&folder.0).expect("there").count(), 1, "something is left");
+}
+
+/// Stored tables are listed, drawn and run; a damaged one is refused 11, and no sheet's command takes one.
+#[test]
+#[cfg_attr(not(guard_library), ignore = "needs the library: rt staticlib hundlezoqa_c")]
+fn stored_tables_are_taken() {
+    let folder = Folder::new("stored");
+    let (a, table) = (sheet("A.hex"), folder.file("-A.table"));
+    assert_eq!(guard(&["make", &a, "-o", &table], b"").status, 0);
+    let listing = "states 3 inputs 1 outputs 1 horizon 1\n0: 0>1 1>2\n1: 0>1 1>2\n2: 0>1 0>0\n";
+    assert_eq!(guard(&["list", &table], b"").text(), listing);
+    assert_eq!(guard(&["list", &a], b"").text(), listing);
+    assert!(guard(&["dot", &table], b"").text().contains("  2 -> 0 [label=\"in0: !out0\"];"));
+    assert_eq!(guard(&["run", &table], b"1\n").text(), "out0 | state 2 | steps 1 | deviations 0\n");
+    assert!(guard(&["check", &table], b"").text().contains("refused 2"));
+    let mut bytes = std::fs::read(&table).expect("there");
+    bytes[15] = 9;
+    let done = guard(&["list", "-"], &bytes);
+    assert_eq!((done.status, done.text().as_str()), (1, "refused 11\n"));
+    assert_eq!(guard(&["dot", "-"], &bytes).status, 1);
+}
+
+/// A refusal is `refused N` on standard output for a listing, and in words on standard error.
+#[test]
+#[cfg_attr(not(guard_library), ignore = "needs the library: rt staticlib hundlezoqa_c")]
+fn refusals_are_told_in_words() {
+    for (name, number, words) in
+        [("P3", 8, "unrealizable"), ("counters-32-9", 7, "256"), ("P10", 5, "seventh")]
+    {
+        let done = guard(&["list", &sheet(&format!("{name}.hex"))], b"");
+        assert_eq!((done.status, done.text()), (1, format!("refused {number}\n")));
+        assert!(done.err.contains(words), "{}", done.err);
+        for command in ["supervisor", "dot"] {
+            let done = guard(&[command, &sheet(&format!("{name}.hex"))], b"");
+            assert_eq!((done.status, done.out.len()), (1, 0));
+        }
+    }
+    let done = guard(&["list", "-"], &[0; 16_385]);
+    assert_eq!((done.status, done.text().as_str()), (1, "too long\n"));
+}
+
+/// The sheets of the repository have the listings that stand beside them.
+#[test]
+#[cfg_attr(not(guard_library), ignore = "needs the library: rt staticlib hundlezoqa_c")]
+fn sheets_are_listed_as_stored() {
+    let sheets = files(repository("sheets"), "sheet");
+    assert!(sheets.len() >= 15, "too few text sheets");
+    for path in sheets {
+        let file = path.to_str().expect("letters");
+        let stored = std::fs::read_to_string(path.with_extension("list")).expect("a listing");
+        let done = guard(&["list", file], b"");
+        assert_eq!(done.text(), stored, "{file}");
+        assert_eq!(done.status, u8::from(stored.starts_with("refused")), "{file}");
+    }
+}
+
+/// Names come from the text; a shield's copies and proposals are told apart.
+#[test]
+#[cfg_attr(not(guard_library), ignore = "needs the library: rt staticlib hundlezoqa_c")]
+fn supervisors_are_told_by_names() {
+    let a = guard(&["supervisor", &sheet("A.sheet")], b"").text();
+    assert!(
+        a.starts_with(
+            "state 0: never_open_twice closed, open_with_tray other\n  !tray  !open, open\n"
+        ),
+        "{a}"
+    );
+    let p7 = guard(&["supervisor", &sheet("P7.hex")], b"").text();
+    assert!(p7.starts_with("state 0: hard0 s0; proposal s0\n  / !out0  !out0, out0\n"), "{p7}");
+}
