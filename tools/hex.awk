@@ -11,7 +11,7 @@ BEGIN {
 
 {
     text = $0
-    sub(/#.*/, "", text)
+    gsub(/#[^\r]*/, "", text)
     n = split(text, found, /[^A-Za-z0-9_]+/)
     for (i = 1; i <= n; i++) if (found[i] in is_word) { worded = 1; exit }
     # The rest is read on for words alone once something is wrong.
@@ -38,6 +38,7 @@ function read_line(    at, line, high, low) {
         low = digit(at + 1)
         if (wrong) return
         line = line sprintf("\\%03o", 16 * high + low)
+        if (length(line) == 256) { print line; line = "" }
     }
     if (line != "") print line
 }

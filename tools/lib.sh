@@ -82,10 +82,9 @@ update() {
     fresh "$@" && return
     made=$root/target/made/${1##*/}
     mkdir -p "$root/target/made" || return 2
-    (shift && sums "$@") >"$made.sources" || return 2
+    sources=$(shift && sums "$@")
     (cd "$root" && $command) </dev/null || return
-    { sums "$1" && cat "$made.sources"; } >"$made.new" && mv "$made.new" "$made"
-    rm -f "$made.sources"
+    { sums "$1" && printf '%s\n' "$sources"; } >"$made.new" && mv "$made.new" "$made"
 }
 
 # The folder of the Rattle toolchain, as `kit`: as rt finds it, and where that is not so, as rt says, which takes longer.
