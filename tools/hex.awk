@@ -11,7 +11,7 @@ BEGIN {
 
 {
     text = $0
-    gsub(/#[^\r]*/, "", text)
+    sub(/#.*/, "", text)
     n = split(text, found, /[^A-Za-z0-9_]+/)
     for (i = 1; i <= n; i++) if (found[i] in is_word) { worded = 1; exit }
     # The rest is read on for words alone once something is wrong.

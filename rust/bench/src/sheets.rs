@@ -73,11 +73,9 @@ pub fn six_counters() -> Vec<u8> {
     (0..6).fold(controller(4, 2, 6), |sheet, line| sheet.counter(32, line)).to_bytes()
 }
 
-/// The bytes of a file of `sheets/`: hexadecimal text, with comments from # on.
+/// The bytes of a file of `sheets/` in hexadecimal.
 pub fn from_text(text: &str) -> Vec<u8> {
-    let words =
-        text.lines().flat_map(|line| line.split('#').next().unwrap_or("").split_whitespace());
-    words.map(|word| u8::from_str_radix(word, 16).expect("hexadecimal")).collect()
+    workbench::hexadecimal::bytes(text).expect("a sheet of the repository")
 }
 
 /// 256 product states of six monitors, four lines in and two out.

@@ -4,7 +4,7 @@ use std::io::Write;
 use std::path::{Path, PathBuf};
 use std::process::{Command, Stdio};
 
-use guard::{calls, Work};
+use guard::{calls, Guard, Work};
 use reference::Board;
 
 /// The calls of document 01, answered by numbers.
@@ -73,7 +73,7 @@ pub struct Library {
 }
 
 impl Library {
-    /// Without a listing program the reference's listing is made of the library's guard table.
+    /// Without a listing program the library's own listing is taken.
     pub fn new(listing: Option<PathBuf>) -> Library {
         Library { work: Work::new(), listing }
     }
@@ -153,14 +153,8 @@ impl Subject for Library {
         if sheet.len() > reference::SHEET_BYTES_MOST {
             return "too long\n".to_string();
         }
-        let mut result = vec![0; reference::GUARD_BYTES_MOST];
-        match self.make_guard(sheet, &mut result) {
-            (0, length) => result
-                .get(..length as usize)
-                .and_then(reference::list_table)
-                .unwrap_or_else(|| "not a loadable table\n".to_string()),
-            (number, _) => format!("refused {number}\n"),
-        }
+        let listing = Guard::make(sheet, &mut self.work).and_then(|guard| guard.listing());
+        listing.unwrap_or_else(|refusal| format!("refused {}\n", refusal.number()))
     }
 }
 

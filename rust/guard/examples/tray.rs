@@ -3,15 +3,22 @@
 //!
 //! Run with `cargo run --offline --example tray`, after `rt staticlib hundlezoqa_c`.
 
+use guard::sheet::Sheet;
 use guard::{Board, Guard, Refusal, Supervisor, Work};
 
 fn main() -> Result<(), Refusal> {
-    let sheet: Vec<u8> = [
-        &[0x06, 0, 1, 0, 0, 1, 1, 1, 0, 0][..],
-        &[0x13, 0, 2, 0, 0, 0, 3, 0, 1, 1, 0, 0, 0, 1, 1, 0, 0, 2, 2, 2, 2, 2, 2],
-        &[0x0E, 0, 2, 0, 1, 3, 2, 0, 0, 1, 1, 0, 0, 1, 1, 0, 0, 1],
-    ]
-    .concat();
+    // A letter is tray + 2 x open.
+    let never_twice = |state: u8, letter: u8| match (state, letter >> 1) {
+        (2, _) => 2,
+        (_, 1) => state + 1,
+        _ => 0,
+    };
+    let as_the_tray = |_, letter: u8| u8::from(letter == 0 || letter == 3);
+    let sheet = Sheet::controller(1, 1)
+        .horizon(1)
+        .hard(3, |state| state < 2, never_twice)
+        .soft(3, 2, |state| state == 1, as_the_tray)
+        .to_bytes();
     let mut work = Work::new();
     let supervisor = Supervisor::make(&sheet, &mut work)?;
     for state in 0..supervisor.states() {
@@ -22,6 +29,7 @@ fn main() -> Result<(), Refusal> {
     let guard = Guard::make(&sheet, &mut work)?;
     let mut board = Board::new();
     board.load(&guard)?;
+    print!("{}", guard.listing()?);
     for tray in [1, 1, 1, 0, 1] {
         println!("tray {tray}: open {}", board.step(&guard, tray)?);
     }

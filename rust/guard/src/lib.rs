@@ -19,14 +19,19 @@
 //!
 #![cfg_attr(guard_library, doc = "```")]
 #![cfg_attr(not(guard_library), doc = "```no_run")]
+//! use guard::sheet::Sheet;
 //! use guard::{Board, Guard, Refusal, Supervisor, Work};
 //!
-//! let sheet: Vec<u8> = [
-//!     &[0x06, 0, 1, 0, 0, 1, 1, 1, 0, 0][..], // controller, lines 1 and 1, H = 1, prefers on
-//!     &[0x13, 0, 2, 0, 0, 0, 3, 0, 1, 1, 0, 0, 0, 1, 1, 0, 0, 2, 2, 2, 2, 2, 2], // hard
-//!     &[0x0E, 0, 2, 0, 1, 3, 2, 0, 0, 1, 1, 0, 0, 1, 1, 0, 0, 1], // soft, weight 3
-//! ]
-//! .concat();
+//! // A letter is input + 2 x output; state 2 is the break.
+//! let sheet = Sheet::controller(1, 1)
+//!     .horizon(1)
+//!     .hard(3, |state| state < 2, |state, letter| match (state, letter >> 1) {
+//!         (2, _) => 2,
+//!         (_, 1) => state + 1,
+//!         _ => 0,
+//!     })
+//!     .soft(3, 2, |state| state == 1, |_, letter| u8::from(letter == 0 || letter == 3))
+//!     .to_bytes();
 //!
 //! let mut work = Work::new();
 //! let supervisor = Supervisor::make(&sheet, &mut work)?;

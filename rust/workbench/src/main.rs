@@ -3,7 +3,7 @@
 use std::io::{self, BufReader, BufWriter, IsTerminal};
 use std::process::ExitCode;
 
-use workbench::bench::{Bench, Stop};
+use workbench::bench::{Bench, Outcome, Stop};
 use workbench::commands;
 
 fn main() -> ExitCode {
@@ -17,12 +17,23 @@ fn main() -> ExitCode {
         err: &mut io::stderr(),
         terminal,
     };
-    let done = commands::dispatch(&words, &mut bench);
-    let done = done.and_then(|()| Ok(bench.out.flush()?));
+    let done = linked(&words)
+        .and_then(|()| commands::dispatch(&words, &mut bench))
+        .and_then(|()| Ok(bench.out.flush()?));
     let Err(stop) = done else { return ExitCode::SUCCESS };
     match &stop {
         Stop::Use(what) | Stop::File(what) => bench.say(what),
         Stop::Refused | Stop::Differs | Stop::Unheard => {}
     }
     ExitCode::from(stop.status())
+}
+
+/// Whether the library is there, where a command asks for it.
+fn linked(words: &[String]) -> Outcome {
+    let without = ["compile", "--help", "-h"];
+    let needed = words.iter().all(|word| !without.contains(&word.as_str()));
+    match needed && !guard::LINKED {
+        true => Err(Stop::Use("built without the library; tools/guard builds it with it".into())),
+        false => Ok(()),
+    }
 }

@@ -132,3 +132,20 @@ fn graphs_have_the_tables_edges() {
     }
     assert!(shields > 5 && losing > 5, "{shields} shields, {losing} with lost states");
 }
+
+/// README's picture of sheet A's guard has the graph's labels, as many times.
+#[test]
+#[cfg_attr(not(guard_library), ignore = "needs the library: rt staticlib hundlezoqa_c")]
+fn the_picture_of_sheet_a_is_its_graph() {
+    let sheet = common::repository("sheets/A.sheet");
+    let graph = guard(&["dot", sheet.to_str().expect("letters")], b"").text();
+    let labels = graph.split("label=\"").skip(1).filter_map(|rest| rest.split('"').next());
+    let mut labels: Vec<&str> = labels.flat_map(|label| label.split("\\n")).collect();
+    let picture =
+        std::fs::read_to_string(common::repository("docs/pictures/A.svg")).expect("there");
+    let texts = picture.split("<text ").skip(1).filter_map(|rest| rest.split('>').nth(1));
+    let mut texts: Vec<&str> = texts.map(|text| text.trim_end_matches("</text")).collect();
+    labels.sort_unstable();
+    texts.sort_unstable();
+    assert_eq!(texts, labels);
+}

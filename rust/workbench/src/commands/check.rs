@@ -28,7 +28,7 @@ fn run(words: &[String], bench: &mut Bench) -> Outcome {
         .and_then(|supervisor| Ok((supervisor, Guard::make(&source.bytes, &mut work)?)));
     match tables {
         Ok((supervisor, guard)) => accepted(&source, &supervisor, &guard, bench),
-        Err(refusal) => refused(&source, refusal, bench),
+        Err(refusal) => refused(&source, refusal, found(&source.bytes), bench),
     }
 }
 
@@ -70,8 +70,13 @@ fn place(fault: &Fault) -> String {
     }
 }
 
-fn refused(source: &Source, refusal: Refusal, bench: &mut Bench) -> Outcome {
-    let (number, place) = found(&source.bytes);
+/// Tells a refusal, with what the reference found if that is the same.
+fn refused(
+    source: &Source,
+    refusal: Refusal,
+    (number, place): (u32, Option<String>),
+    bench: &mut Bench,
+) -> Outcome {
     if number != refusal.number() {
         writeln!(bench.out, "refused {}", refusal.number())?;
         return Err(differs(bench));
@@ -91,4 +96,31 @@ fn refused(source: &Source, refusal: Refusal, bench: &mut Bench) -> Outcome {
 pub fn differs(bench: &mut Bench) -> Stop {
     bench.say("the reference, which tells places and names, differs from the library here");
     Stop::Differs
+}
+
+#[cfg(test)]
+mod tests {
+    use super::*;
+    use crate::source::Taken;
+
+    /// Tells a refusal 4, whatever the reference finds.
+    fn told(found: (u32, Option<String>)) -> (u8, String) {
+        let source =
+            Source { file: "it".to_string(), taken: Taken::Bytes, bytes: vec![0; 4], named: None };
+        let (mut out, mut err) = (Vec::new(), Vec::new());
+        let mut bench =
+            Bench { input: &mut std::io::empty(), out: &mut out, err: &mut err, terminal: false };
+        let stop = refused(&source, Refusal::BadMonitor, found, &mut bench).unwrap_err();
+        (stop.status(), String::from_utf8(out).unwrap())
+    }
+
+    #[test]
+    fn where_the_reference_differs_the_number_stands_alone() {
+        let place = Some("record 1, byte 4: a word".to_string());
+        for number in [0, 1, 3, 5, 8] {
+            assert_eq!(told((number, place.clone())), (3, "refused 4\n".to_string()));
+        }
+        let (status, out) = told((4, place));
+        assert_eq!((status, out.lines().nth(1)), (1, Some("  record 1, byte 4: a word")));
+    }
 }
