@@ -57,6 +57,9 @@ fn run(words: &[String], bench: &mut Bench) -> Outcome {
         }
         run.take_line(String::from_utf8_lossy(&line).trim_end(), number, bench)?;
     }
+    if bench.terminal {
+        writeln!(bench.out)?;
+    }
     match run.refused {
         true => Err(Stop::Refused),
         false => Ok(()),
