@@ -112,13 +112,13 @@ crates_of() {
         }' crates.txt
 }
 
-# prove WORD NAME: `rt WORD NAME`, which says each crate when it is proved; all that rt said where it fails.
+# prove WORD NAME: `rt WORD NAME`. Says each crate as it is proved, and all that rt said where it fails.
 prove() (
     grep -q "^$2:" crates.txt || stop 2 "crates.txt has no crate $2"
     say "proving $2 and what it leans on: $(crates_of "$2") crates, some minutes where none is proved yet"
     room=$(mktemp -d) || exit 2
     trap 'rm -rf "$room"' EXIT
-    trap 'exit 2' HUP INT TERM
+    trap 'exit 2' HUP INT PIPE TERM
     { rt "$1" "$2" 2>&1; echo $? >"$room/status"; } | while IFS= read -r line; do
         printf '%s\n' "$line"
         case $line in 'rt: '*' proved ('[0-9]*) say "${line#rt: }" ;; esac
