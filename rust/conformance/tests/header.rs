@@ -33,12 +33,17 @@ fn listing_bytes_most() -> usize {
 }
 
 #[test]
+fn a_listing_s_most_is_rattle_s() {
+    assert_eq!(Guard::LISTING_BYTES_MOST, listing_bytes_most());
+}
+
+#[test]
 fn every_number_and_length_is_the_wrapper_s() {
     let mut expected: BTreeMap<String, usize> = [
         ("HZ_OK", 0),
         ("HZ_SUPERVISOR_BYTES_MOST", Supervisor::BYTES_MOST),
         ("HZ_GUARD_BYTES_MOST", Guard::BYTES_MOST),
-        ("HZ_LISTING_BYTES_MOST", listing_bytes_most()),
+        ("HZ_LISTING_BYTES_MOST", Guard::LISTING_BYTES_MOST),
         ("HZ_WORK_TUPLES", Work::TUPLES),
         ("HZ_WORK_CELLS", Work::CELLS),
         ("HZ_WORK_DROPPED", Work::DROPPED),
