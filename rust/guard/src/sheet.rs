@@ -1,6 +1,7 @@
 //! Sheets by their parts, and the bytes that they are written as.
 //!
-//! Nothing is judged here: what is out of bounds is written as it stands, and the makers refuse it.
+//! Nothing is judged here: what is out of bounds is written as it stands, or as the largest number
+//! that its field holds, and the makers refuse it.
 
 const HEAD: u16 = 1;
 const MONITOR: u16 = 2;
@@ -10,7 +11,7 @@ const LIMIT_LETTERS: usize = 4;
 /// A record of any kind: the length of its body and the kind, two bytes each, then the body.
 pub fn record(kind: u16, body: &[u8]) -> Vec<u8> {
     let mut bytes = Vec::with_capacity(4 + body.len());
-    bytes.extend((body.len() as u16).to_le_bytes());
+    bytes.extend(u16::try_from(body.len()).unwrap_or(u16::MAX).to_le_bytes());
     bytes.extend(kind.to_le_bytes());
     bytes.extend(body);
     bytes
@@ -47,8 +48,14 @@ pub struct Literal {
 }
 
 impl Literal {
+    /// The line's number if on is preferred, 8 more if off is; no such byte is a line's that there
+    /// cannot be.
     fn byte(self) -> u8 {
-        self.line + if self.on { 0 } else { 8 }
+        match (self.line, self.on) {
+            (0..=7, true) => self.line,
+            (0..=7, false) => self.line + 8,
+            _ => u8::MAX,
+        }
     }
 }
 
@@ -70,7 +77,8 @@ pub struct Monitor {
 impl Monitor {
     /// The monitor's record.
     pub fn record(&self) -> Vec<u8> {
-        let mut body = vec![self.role as u8, self.weight, self.accepts.len() as u8, self.start];
+        let states = u8::try_from(self.accepts.len()).unwrap_or(u8::MAX);
+        let mut body = vec![self.role as u8, self.weight, states, self.start];
         body.extend(self.accepts.iter().map(|&accepts| u8::from(accepts)));
         body.extend(&self.next);
         record(MONITOR, &body)
@@ -199,7 +207,7 @@ impl Sheet {
     pub fn inputs(&self) -> u8 {
         match self.mode {
             Mode::Controller => self.lines_in,
-            Mode::Shield => self.lines_in + self.lines_out,
+            Mode::Shield => self.lines_in.saturating_add(self.lines_out),
         }
     }
 
@@ -226,5 +234,69 @@ impl Sheet {
             bytes.extend(monitor.record());
             bytes
         })
+    }
+}
+
+#[cfg(test)]
+mod tests {
+    use super::*;
+
+    /// Sheet A of the notebook, byte by byte.
+    #[test]
+    fn a_sheet_is_its_records() {
+        let sheet = Sheet::controller(1, 1)
+            .horizon(1)
+            .hard(
+                3,
+                |state| state < 2,
+                |state, letter| match (state, letter >> 1) {
+                    (2, _) => 2,
+                    (_, 1) => state + 1,
+                    _ => 0,
+                },
+            )
+            .soft(3, 2, |state| state == 1, |_, letter| u8::from(letter == 0 || letter == 3));
+        let records: [&[u8]; 3] = [
+            &[6, 0, 1, 0, 0, 1, 1, 1, 0, 0],
+            &[19, 0, 2, 0, 0, 0, 3, 0, 1, 1, 0, 0, 0, 1, 1, 0, 0, 2, 2, 2, 2, 2, 2],
+            &[14, 0, 2, 0, 1, 3, 2, 0, 0, 1, 1, 0, 0, 1, 1, 0, 0, 1],
+        ];
+        assert_eq!(sheet.to_bytes(), records.concat());
+    }
+
+    /// A shield's head and limit, with a match weight and preferences.
+    #[test]
+    fn a_shield_s_fields_are_written() {
+        let prefer = [Literal { line: 1, on: false }, Literal { line: 0, on: true }];
+        let sheet = Sheet::shield(1, 2).horizon(7).match_weight(9).prefer(prefer);
+        assert_eq!(
+            (sheet.inputs(), sheet.letters(Role::Hard), sheet.letters(Role::Limit)),
+            (3, 8, 4)
+        );
+        let sheet = sheet.limit(2, |state| state == 0, |_, letter| letter >> 1);
+        let records: [&[u8]; 2] = [
+            &[7, 0, 1, 0, 1, 1, 2, 7, 9, 9, 0],
+            &[14, 0, 2, 0, 2, 0, 2, 0, 1, 0, 0, 0, 1, 1, 0, 0, 1, 1],
+        ];
+        assert_eq!(sheet.to_bytes(), records.concat());
+    }
+
+    /// What does not fit becomes nothing that does.
+    #[test]
+    fn what_is_out_of_bounds_stays_so() {
+        for (line, on) in [(8, true), (8, false), (248, false), (255, true)] {
+            let sheet = Sheet::controller(0, 1).prefer([Literal { line, on }]);
+            assert_eq!(sheet.head()[9], u8::MAX);
+        }
+        let many = Monitor {
+            role: Role::Hard,
+            weight: 0,
+            start: 0,
+            accepts: vec![true; 256],
+            next: vec![0; 70_000],
+        };
+        assert_eq!(many.record()[..8], [255, 255, 2, 0, 0, 0, 255, 0]);
+        let wide = Sheet::shield(255, 255);
+        assert_eq!((wide.inputs(), wide.letters(Role::Soft)), (255, 256));
     }
 }

@@ -1,4 +1,5 @@
 use crate::calls::{self, FIGURES, LISTING_FIGURES};
+use crate::sheet::Mode;
 use crate::work::{INPUTS_MOST, STATES_MOST};
 use crate::{Board, Refusal, Work};
 
@@ -156,6 +157,14 @@ impl Guard {
     /// Whether the guard corrects a proposal (mode 1) or decides alone (mode 0).
     pub fn is_shield(&self) -> bool {
         self.bytes[HEADER] == 1
+    }
+
+    /// The same as a mode.
+    pub fn mode(&self) -> Mode {
+        match self.is_shield() {
+            true => Mode::Shield,
+            false => Mode::Controller,
+        }
     }
 
     /// The guard's input lines.

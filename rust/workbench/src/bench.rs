@@ -13,9 +13,22 @@ pub struct Bench<'a> {
 }
 
 impl Bench<'_> {
-    /// A word about the work. Where even that cannot be written there is nobody to tell.
+    /// A word about the work, after the answers so far. Where even that cannot be written there is
+    /// nobody to tell; what becomes of the answers is seen at the end.
     pub fn say(&mut self, what: impl fmt::Display) {
-        let _ = writeln!(self.err, "guard: {what}");
+        self.tell(format_args!("guard: {what}\n"));
+    }
+
+    /// The same without the program's name.
+    pub fn tell(&mut self, what: impl fmt::Display) {
+        let _ = self.out.flush();
+        let _ = write!(self.err, "{what}");
+    }
+
+    /// The library and the reference do not agree: what only the reference knows is not told.
+    pub fn differs(&mut self) -> Stop {
+        self.say("the reference, which tells places and names, differs from the library here");
+        Stop::Differs
     }
 }
 

@@ -2,7 +2,9 @@
 //!
 //! [`text`] is the text sheet, [`source`] takes a file for what it is, [`making`] has the proved
 //! library make its tables, and [`commands`] has a file for each command. Every number and every
-//! table is the library's; the reference tells places and names, and only where it agrees.
+//! table is the library's. What it does not say, the reference tells, and only where both agree:
+//! where bytes are refused, which monitor states a product state stands for, where a step of the
+//! supervisor ends.
 
 pub mod arguments;
 pub mod bench;

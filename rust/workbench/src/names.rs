@@ -84,9 +84,12 @@ impl Names {
 
 /// How the lines stand, bit j for line j: `tray !lid`.
 pub fn setting(lines: &[String], bits: u8) -> String {
-    let stands = |(bit, name): (usize, &String)| match bits >> bit & 1 {
-        1 => name.clone(),
-        _ => format!("!{name}"),
-    };
+    let stands = |(bit, name): (usize, &String)| literal(name, bits >> bit & 1 == 1);
     lines.iter().enumerate().map(stands).collect::<Vec<_>>().join(" ")
+}
+
+/// A line that is on or off: `tray`, `!tray`.
+pub fn literal(name: &str, on: bool) -> String {
+    let sign = if on { "" } else { "!" };
+    format!("{sign}{name}")
 }

@@ -22,13 +22,8 @@ impl Fault {
         Fault { place, what: what.into(), expected: expected.into() }
     }
 
-    /// The fault as it is printed: file, place, what is wrong, the line with a mark, what was
-    /// expected.
-    pub fn within<'a>(&'a self, file: &'a str, text: &'a str) -> Told<'a> {
-        self.on_line(file, text.lines().nth(self.place.line - 1).unwrap_or(""))
-    }
-
-    /// The same, by the line that it is on.
+    /// The fault as it is printed, by the line that it is on: file, place, what is wrong, the line
+    /// with a mark, what was expected.
     pub fn on_line<'a>(&'a self, file: &'a str, line: &'a str) -> Told<'a> {
         Told { fault: self, file, line }
     }
@@ -41,19 +36,25 @@ pub struct Told<'a> {
     line: &'a str,
 }
 
+/// How many characters of a line are shown before a mark, and how many from it on.
+const BEFORE: usize = 80;
+const AFTER: usize = 80;
+
 impl fmt::Display for Told<'_> {
     fn fmt(&self, f: &mut fmt::Formatter<'_>) -> fmt::Result {
         let Fault { place, what, expected } = self.fault;
-        writeln!(f, "{}:{}:{}: {what}", self.file, place.line, place.column)?;
-        let line = self.line;
-        let shown: String = line.chars().map(visible).collect();
-        let before = place.column - 1;
+        let line = self.line.trim_end();
+        let skipped = (place.column - 1).saturating_sub(BEFORE);
+        let shown: String = line.chars().skip(skipped).take(BEFORE + AFTER).map(visible).collect();
         // Tabs stay tabs, so that the mark stands below its place.
         let blank = |c| if c == '\t' { '\t' } else { ' ' };
-        let indent: String =
-            line.chars().chain(std::iter::repeat(' ')).take(before).map(blank).collect();
-        writeln!(f, "    {}", shown.trim_end())?;
-        writeln!(f, "    {indent}^")?;
+        let before = shown.chars().chain(std::iter::repeat(' ')).take(place.column - 1 - skipped);
+        let indent: String = before.map(blank).collect();
+        let cut = if skipped > 0 { ".. " } else { "" };
+        let more = if line.chars().nth(skipped + BEFORE + AFTER).is_some() { " .." } else { "" };
+        writeln!(f, "{}:{}:{}: {what}", self.file, place.line, place.column)?;
+        writeln!(f, "    {cut}{shown}{more}")?;
+        writeln!(f, "    {}{indent}^", " ".repeat(cut.len()))?;
         writeln!(f, "  expected {expected}")
     }
 }

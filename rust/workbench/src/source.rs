@@ -1,9 +1,10 @@
 //! A file of a sheet or a table: read, and taken for what its content says.
 
+use std::ffi::OsStr;
 use std::fs::File;
 use std::io::Read;
 
-use guard::sheet::{self, Literal, Mode, Monitor, Role};
+use guard::sheet::{self, Literal, Monitor, Role};
 use guard::Guard;
 
 use crate::bench::{Bench, Stop};
@@ -15,8 +16,8 @@ use crate::text::{self, Named};
 
 /// The most that is read of a file.
 const BYTES_MOST: u64 = 1 << 24;
-/// The kind of a guard table's first record.
-const GUARD_HEAD: [u8; 2] = [16, 0];
+/// How many faults of a text are told.
+const FAULTS_MOST: usize = 1_000;
 
 /// What a file is taken for.
 #[derive(Clone, Copy, Debug, PartialEq, Eq)]
@@ -30,82 +31,146 @@ impl Taken {
     /// An empty file is the empty sheet. Any control character but tabs and line ends makes a file
     /// bytes. A text with a word that a statement begins with is a text sheet, any other hexadecimal.
     pub fn of(content: &[u8]) -> Taken {
-        let control = |&byte: &u8| byte < 32 && !b"\t\n\r".contains(&byte) || byte == 127;
-        if content.is_empty() || content.iter().any(control) {
-            return Taken::Bytes;
-        }
-        let content = String::from_utf8_lossy(content);
-        let words = |line| uncommented(line).split(|c: char| !c.is_alphanumeric() && c != '_');
-        match content.lines().flat_map(words).any(|word| STATEMENTS.contains(&word)) {
-            true => Taken::TextSheet,
+        match content.is_empty() || content.iter().any(is_control) {
+            true => Taken::Bytes,
+            false if has_statement(content) => Taken::TextSheet,
             false => Taken::Hexadecimal,
         }
     }
 
-    /// What a file was taken for, and why.
-    pub fn reason(self) -> &'static str {
-        match self {
-            Taken::TextSheet => "taken for a text sheet, since a statement's first word is in it",
-            Taken::Hexadecimal => {
-                "taken for hexadecimal text, since no word of a text sheet is in it"
-            }
-            Taken::Bytes => "taken for bytes, since it is empty or has control characters",
-        }
+    /// What content is taken for, and why.
+    fn reason(self, content: &[u8]) -> String {
+        let Some(at) = content.iter().position(is_control) else {
+            let reason = match self {
+                Taken::TextSheet => "a text sheet, since a statement's first word is in it",
+                Taken::Hexadecimal => "hexadecimal text, since no word of a text sheet is in it",
+                Taken::Bytes => "the empty sheet, since it is empty",
+            };
+            return format!("taken for {reason}");
+        };
+        let otherwise = match content {
+            [0xFF, 0xFE, ..] | [0xFE, 0xFF, ..] => "; if it is text in UTF-16, save it in UTF-8",
+            _ if has_statement(content) => "; but for that it might be a text sheet",
+            _ => "",
+        };
+        format!("taken for bytes, since its byte {at} is a control character{otherwise}")
     }
 }
 
-/// A file's bytes, and the names that a text sheet gives.
+fn is_control(byte: &u8) -> bool {
+    *byte < 32 && !b"\t\n\r".contains(byte) || *byte == 127
+}
+
+/// Whether a word of the text, comments aside, is one that a statement begins with.
+fn has_statement(content: &[u8]) -> bool {
+    let content = String::from_utf8_lossy(content);
+    let words = |line| uncommented(line).split(|c: char| !c.is_ascii_alphanumeric() && c != '_');
+    content.lines().flat_map(words).any(|word| STATEMENTS.contains(&word))
+}
+
+/// A file's bytes.
 #[derive(Clone, Debug, PartialEq, Eq)]
 pub struct Source {
     /// The file as messages name it.
     pub file: String,
     pub taken: Taken,
     pub bytes: Vec<u8>,
-    pub named: Option<Named>,
+    /// The sheet of a text, with the names that it gives.
+    text: Option<Named>,
+    /// What the file was taken for, and why.
+    reason: String,
 }
 
 impl Source {
     /// Reads a file, `-` being standard input. The faults of a text are all said.
-    pub fn read(file: &str, bench: &mut Bench) -> Result<Source, Stop> {
-        let content = read_content(file, bench)?;
-        let file = if file == "-" { "standard input" } else { file }.to_string();
+    pub fn read(file: &OsStr, bench: &mut Bench) -> Result<Source, Stop> {
+        let name = match file.to_str() {
+            Some("-") => "standard input".to_string(),
+            _ => file.to_string_lossy().into_owned(),
+        };
+        let content = read_content(file, &name, bench)?;
         let taken = Taken::of(&content);
-        if taken == Taken::Bytes {
-            return Ok(Source { file, taken, bytes: content, named: None });
-        }
+        let reason = taken.reason(&content);
+        let mut source = Source { file: name, taken, bytes: Vec::new(), text: None, reason };
         let text = String::from_utf8_lossy(&content);
         let faults = match taken {
+            Taken::Bytes => {
+                source.bytes = content;
+                return Ok(source);
+            }
             Taken::TextSheet => match text::compile(&text) {
                 Ok((named, warnings)) => {
-                    for warning in &warnings {
-                        let _ = write!(bench.err, "{}", warning.within(&file, &text));
-                    }
-                    let bytes = named.sheet.to_bytes();
-                    return Ok(Source { file, taken, bytes, named: Some(named) });
+                    source.tell(&warnings, &text, bench);
+                    source.bytes = named.sheet.to_bytes();
+                    source.text = Some(named);
+                    return Ok(source);
                 }
                 Err(faults) => faults,
             },
-            _ => match hexadecimal::bytes(&text) {
-                Ok(bytes) => return Ok(Source { file, taken, bytes, named: None }),
+            Taken::Hexadecimal => match hexadecimal::bytes(&text) {
+                Ok(bytes) => {
+                    source.bytes = bytes;
+                    return Ok(source);
+                }
                 Err(fault) => vec![fault],
             },
         };
-        Err(refuse(&faults, &file, &text, taken, bench))
+        Err(source.refuse(&faults, &text, bench))
+    }
+
+    /// Bytes that are in no file.
+    pub fn of_bytes(file: &str, bytes: Vec<u8>) -> Source {
+        let reason = Taken::Bytes.reason(&bytes);
+        Source { file: file.to_string(), taken: Taken::Bytes, bytes, text: None, reason }
+    }
+
+    /// Says faults or warnings, each with its line; of very many the first.
+    fn tell(&self, faults: &[Fault], text: &str, bench: &mut Bench) {
+        let lines: Vec<&str> = text.lines().collect();
+        for fault in faults.iter().take(FAULTS_MOST) {
+            let line = lines.get(fault.place.line - 1).copied().unwrap_or("");
+            bench.tell(fault.on_line(&self.file, line));
+        }
+        if let Some(more) = faults.len().checked_sub(FAULTS_MOST + 1) {
+            bench.say(format!("{}: {} more", self.file, more + 1));
+        }
+    }
+
+    fn refuse(&self, faults: &[Fault], text: &str, bench: &mut Bench) -> Stop {
+        self.tell(faults, text, bench);
+        let errors = if faults.len() == 1 { "error" } else { "errors" };
+        bench.say(format!("{}: {} {errors}; {}", self.file, faults.len(), self.reason));
+        Stop::Refused
+    }
+
+    /// What the file was taken for, and why.
+    pub fn reason(&self) -> &str {
+        &self.reason
+    }
+
+    /// Of what the bytes begin as a table.
+    pub fn table_kind(&self) -> Option<&'static str> {
+        match self.bytes.get(2..4) {
+            Some([16, 0]) => Some("guard"),
+            Some([19, 0]) => Some("supervisor"),
+            _ => None,
+        }
     }
 
     /// Whether the bytes begin as a guard table does.
     pub fn is_table(&self) -> bool {
-        self.bytes.get(2..4) == Some(&GUARD_HEAD)
+        self.table_kind() == Some("guard")
     }
 
-    /// The sheet with its names, made up where it has none; nothing if it is out of bounds.
+    /// The sheet with its names, made up where it has none; nothing if the reference does not read
+    /// these very bytes.
     pub fn named(&self) -> Option<Named> {
-        if self.named.is_some() {
-            return self.named.clone();
+        if self.text.is_some() {
+            return self.text.clone();
         }
         let sheet = parts(&reference::Sheet::parse(&self.bytes).ok()?);
         let names = Names::made_up(&sheet);
-        Some(Named { sheet, names })
+        (sheet.to_bytes() == self.bytes).then_some(Named { sheet, names })
     }
 
     /// The names for a guard made from this or stored in it.
@@ -116,24 +181,17 @@ impl Source {
     }
 }
 
-fn refuse(faults: &[Fault], file: &str, text: &str, taken: Taken, bench: &mut Bench) -> Stop {
-    for fault in faults {
-        let _ = write!(bench.err, "{}", fault.within(file, text));
-    }
-    let errors = if faults.len() == 1 { "error" } else { "errors" };
-    bench.say(format!("{file}: {} {errors}; {}", faults.len(), taken.reason()));
-    Stop::Refused
-}
-
-fn read_content(file: &str, bench: &mut Bench) -> Result<Vec<u8>, Stop> {
+fn read_content(file: &OsStr, name: &str, bench: &mut Bench) -> Result<Vec<u8>, Stop> {
     let mut content = Vec::new();
-    let read = match file {
-        "-" => Read::take(&mut *bench.input, BYTES_MOST + 1).read_to_end(&mut content),
-        _ => File::open(file).and_then(|file| file.take(BYTES_MOST + 1).read_to_end(&mut content)),
+    let read = match file == "-" {
+        true => Read::take(&mut *bench.input, BYTES_MOST + 1).read_to_end(&mut content),
+        false => {
+            File::open(file).and_then(|file| file.take(BYTES_MOST + 1).read_to_end(&mut content))
+        }
     };
-    read.map_err(|error| Stop::File(format!("{file}: {error}")))?;
+    read.map_err(|error| Stop::File(format!("{name}: {error}")))?;
     match content.len() as u64 > BYTES_MOST {
-        true => Err(Stop::File(format!("{file}: more than {BYTES_MOST} bytes"))),
+        true => Err(Stop::File(format!("{name}: more than {BYTES_MOST} bytes"))),
         false => Ok(content),
     }
 }
@@ -165,13 +223,5 @@ fn monitor_parts(read: &reference::Monitor) -> Monitor {
         start: read.start,
         accepts: states.clone().map(|state| read.accepts(state)).collect(),
         next: states.flat_map(|state| read.row(state).to_vec()).collect(),
-    }
-}
-
-/// The mode of a guard.
-pub fn mode_of(guard: &Guard) -> Mode {
-    match guard.is_shield() {
-        true => Mode::Shield,
-        false => Mode::Controller,
     }
 }

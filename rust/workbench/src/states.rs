@@ -45,7 +45,8 @@ impl States {
         (all.iter().map(&mut name).collect(), copied.iter().map(&mut name).collect())
     }
 
-    /// The product state of each guard state: the guard's outputs are followed from the start.
+    /// The product state of each guard state: the guard's outputs are followed from the start, and
+    /// every way must lead to the same one.
     pub fn of_guard(&self, guard: &Guard) -> Option<Vec<usize>> {
         let mut found = vec![None; guard.states()];
         found[0] = Some(0);
@@ -53,7 +54,10 @@ impl States {
             for input in 0..1 << guard.inputs() {
                 let (output, next) = guard.entry(state, input);
                 let edge = self.product.edge(found[state]?, input.into(), output.into());
-                found[next].get_or_insert(edge.next()?);
+                let to = edge.next()?;
+                if *found[next].get_or_insert(to) != to {
+                    return None;
+                }
             }
         }
         found.into_iter().collect()

@@ -6,6 +6,7 @@ use crate::names::Names;
 use crate::place::Fault;
 use crate::text::line::Line;
 use crate::text::words::{self, Kind};
+use crate::text::BYTE_ORDER_MARK;
 
 /// A call of the board.
 #[derive(Clone, Copy, Debug, PartialEq, Eq)]
@@ -18,10 +19,12 @@ pub enum Call {
 
 /// The call of a line; nothing where it is blank.
 pub fn read(line: &str, number: usize, names: &Names, mode: Mode) -> Result<Option<Call>, Fault> {
+    let line = line.strip_prefix(BYTE_ORDER_MARK).filter(|_| number == 1).unwrap_or(line);
     let mut faults = Vec::new();
     let words = words::words(line, number, &mut faults);
     if let Some(fault) = faults.into_iter().next() {
-        return Err(fault);
+        let expected = "an input by its number or by names, rewind, unload or load";
+        return Err(Fault::new(fault.place, fault.what, expected));
     }
     let Some(mut line) = Line::new(words) else { return Ok(None) };
     let call = match line.peek().map(|word| (word.kind, word.text.as_str())) {
@@ -56,7 +59,9 @@ fn read_lines(line: &mut Line, lines: &[String]) -> Result<u8, Fault> {
     while line.peek().is_some_and(|word| !word.is("/")) {
         let off = line.take("!");
         let expected = match lines {
-            [] => "no line: there is none".to_string(),
+            [] => {
+                "the input's number, or of a shield `/` and the names of its proposal".to_string()
+            }
             _ => format!("one of {}, or `!` and one", lines.join(", ")),
         };
         let Some(word) = line.peek().filter(|word| word.is_free_name()) else {

@@ -22,9 +22,10 @@ fn help_is_an_answer() {
 }
 
 #[test]
+#[cfg_attr(not(guard_library), ignore = "needs the library: rt staticlib hundlezoqa_c")]
 fn wrong_use_is_2() {
     let a = sheet("A.hex");
-    let uses: [&[&str]; 12] = [
+    let uses: [&[&str]; 16] = [
         &[],
         &["lists", &a],
         &["list"],
@@ -37,6 +38,10 @@ fn wrong_use_is_2() {
         &["dot", &a, "--supervisr"],
         &["run", "-"],
         &["check", "--", "--help", "more"],
+        &["check", "-x"],
+        &["check", ""],
+        &["compile", &a, "-o", ""],
+        &["compile", &a, "-o", &a],
     ];
     for words in uses {
         let done = guard(words, b"");
@@ -46,6 +51,7 @@ fn wrong_use_is_2() {
 }
 
 #[test]
+#[cfg_attr(not(guard_library), ignore = "needs the library: rt staticlib hundlezoqa_c")]
 fn a_file_that_cannot_be_read_or_written_is_3() {
     let folder = Folder::new("unreadable");
     let (a, missing) = (sheet("A.hex"), folder.file("missing/it"));
@@ -132,8 +138,10 @@ fn refusals_are_told_in_words() {
             assert_eq!((done.status, done.out.len()), (1, 0));
         }
     }
-    let done = guard(&["list", "-"], &[0; 16_385]);
-    assert_eq!((done.status, done.text().as_str()), (1, "too long\n"));
+    for (length, text) in [(16_384, "refused 2\n"), (16_385, "too long\n")] {
+        let done = guard(&["list", "-"], &vec![0; length]);
+        assert_eq!((done.status, done.text().as_str()), (1, text));
+    }
 }
 
 /// The sheets of the repository have the listings that stand beside them.
@@ -164,4 +172,44 @@ fn supervisors_are_told_by_names() {
     );
     let p7 = guard(&["supervisor", &sheet("P7.hex")], b"").text();
     assert!(p7.starts_with("state 0: hard0 s0; proposal s0\n  / !out0  !out0, out0\n"), "{p7}");
+}
+
+/// A file is taken for what is in it, and a byte order mark is no part of a text sheet.
+#[test]
+#[cfg_attr(not(guard_library), ignore = "needs the library: rt staticlib hundlezoqa_c")]
+fn files_are_taken_for_their_content() {
+    let text = std::fs::read(sheet("A.sheet")).expect("there");
+    let bytes = guard(&["compile", "-"], &text).out;
+    let marked = ["\u{FEFF}".as_bytes(), &text].concat();
+    let lines = String::from_utf8(text.clone()).expect("text").replace('\n', "\r\n");
+    for content in [&text, &marked, &lines.into_bytes(), &bytes] {
+        assert_eq!(guard(&["compile", "-"], content).out, bytes);
+    }
+    for (content, taken) in [
+        (&b"\x7F00"[..], "bytes"),
+        (b"00\0", "bytes"),
+        (b"# mode\n0G", "hexadecimal text"),
+        (b"mode\n0G", "a text sheet"),
+        (b"modes in0 0G", "hexadecimal text"),
+        (b"\x10\0\x13\0", "bytes"),
+        ("0G äin".as_bytes(), "a text sheet"),
+        (b"", "the empty sheet"),
+    ] {
+        let done = guard(&["check", "-"], content);
+        assert!(done.err.contains(&format!("taken for {taken}, since")), "{}", done.err);
+        assert_eq!(done.status, 1);
+    }
+    // A table where a sheet is asked for: the library refuses it, and a hint is given.
+    let guard_table = reference::guard_table(&bytes).expect("accepted");
+    let supervisor_table = reference::supervisor_table(&bytes).expect("accepted");
+    for (table, kind) in [(guard_table, "guard"), (supervisor_table, "supervisor")] {
+        for command in ["check", "show", "supervisor", "compile"] {
+            let done = guard(&[command, "-"], &table);
+            assert!(done.err.contains(&format!("as a {kind} table does")), "{}", done.err);
+            assert_eq!((done.status, done.text().contains("bytes")), (1, false), "{command}");
+        }
+    }
+    let utf16: Vec<u8> = "\u{FEFF}mode".encode_utf16().flat_map(u16::to_le_bytes).collect();
+    assert!(guard(&["compile", "-"], &utf16).err.contains("save it in UTF-8"));
+    assert!(guard(&["compile", "-"], b"mode\x0C").err.contains("it might be a text sheet"));
 }

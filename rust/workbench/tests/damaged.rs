@@ -127,20 +127,31 @@ fn no_input_makes_a_command_panic() {
 
 /// Deep and long conditions, and long lines.
 #[test]
+#[cfg_attr(not(guard_library), ignore = "needs the library: rt staticlib hundlezoqa_c")]
 fn size_makes_nothing_overflow() {
     let head = "mode controller\nout a\nhorizon 0\nprefer a\nhard h\nstate s start accept\n";
     let long = "a & ".repeat(100_000) + "a";
-    for condition in [
-        "(".repeat(100_000),
-        "!".repeat(100_000) + "a",
-        "(".repeat(63) + "a" + &")".repeat(63),
-        long.clone(),
-        long.replace('&', "|"),
+    for (condition, status) in [
+        ("(".repeat(100_000), 1),
+        ("!".repeat(100_000) + "a", 1),
+        ("(".repeat(65) + "a" + &")".repeat(65), 1),
+        ("(".repeat(64) + "a" + &")".repeat(64), 0),
+        (long.clone(), 0),
+        (long.replace('&', "|"), 0),
     ] {
         let sheet = format!("{head}{condition} -> s\nelse -> s\n");
-        let done = guard(&["compile", "-"], sheet.as_bytes());
-        assert!(done.status < 2);
+        assert_eq!(guard(&["compile", "-"], sheet.as_bytes()).status, status);
     }
-    let lines = format!("{head}{}", "b -> t\n".repeat(20_000));
-    assert_eq!(guard(&["compile", "-"], lines.as_bytes()).status, 1);
+    // Very many errors, and many on one line: the first are told, in time, and not at any length.
+    for sheet in [
+        format!("{head}{}", "b -> t\n".repeat(20_000)),
+        format!("{head}{} -> s\n", "b & ".repeat(20_000) + "b"),
+        "mode controller\n".repeat(20_000),
+        head.replace("out a", &format!("out {}", "a ".repeat(20_000))),
+        format!("{head}{}", "state t\nelse -> u\n".repeat(20_000)),
+    ] {
+        let done = guard(&["compile", "-"], sheet.as_bytes());
+        assert_eq!(done.status, 1);
+        assert!(done.err.len() < 1_000_000, "{} bytes of errors", done.err.len());
+    }
 }

@@ -6,15 +6,15 @@ use std::collections::{BTreeMap, BTreeSet};
 
 use common::{guard, hexadecimal};
 use conformance::{cases, generate, seed, Random};
-use reference::{Kept, Mode, Product, Sheet};
+use reference::{Kept, Mode, Product, Role, Sheet};
 use workbench::text;
 
 /// An edge: from, to, output, whether it is dashed.
 type Edge = (usize, usize, String, bool);
 
-/// The edges of a graph with their conditions, and the states marked as lost.
-fn drawn(graph: &str) -> (BTreeMap<Edge, String>, BTreeSet<usize>) {
-    let (mut edges, mut lost) = (BTreeMap::new(), BTreeSet::new());
+/// The edges of a graph with their conditions, and the labels of its states in order.
+fn drawn(graph: &str) -> (BTreeMap<Edge, String>, Vec<String>) {
+    let (mut edges, mut labels) = (BTreeMap::new(), Vec::new());
     for line in graph.lines().filter_map(|line| line.strip_prefix("  ")) {
         if line.starts_with("begin") || !line.starts_with(|c: char| c.is_ascii_digit()) {
             continue;
@@ -22,8 +22,10 @@ fn drawn(graph: &str) -> (BTreeMap<Edge, String>, BTreeSet<usize>) {
         let (ends, rest) = line.split_once(" [label=\"").expect("a label");
         let (label, style) = rest.split_once('"').expect("a label's end");
         match ends.split_once(" -> ") {
-            None if label.ends_with("\\nlost") => drop(lost.insert(ends.parse().expect("a state"))),
-            None => {}
+            None => {
+                assert_eq!(ends, labels.len().to_string(), "states in order");
+                labels.push(label.to_string());
+            }
             Some((from, to)) => {
                 let (when, output) = label.rsplit_once(": ").expect("inputs and output");
                 let ends = (from.parse().expect("a state"), to.parse().expect("a state"));
@@ -32,7 +34,7 @@ fn drawn(graph: &str) -> (BTreeMap<Edge, String>, BTreeSet<usize>) {
             }
         }
     }
-    (edges, lost)
+    (edges, labels)
 }
 
 /// The inputs at which a condition of a graph holds, by compiling it.
@@ -100,6 +102,38 @@ fn supervisor_edges(
     edges
 }
 
+/// The label of a state that stands for a product state.
+fn label(number: usize, sheet: &Sheet, product: &Product, state: usize, lost: bool) -> String {
+    let count = sheet.monitors.len();
+    let copies = sheet.monitors.iter().filter(|monitor| monitor.role == Role::Hard).count();
+    let copies = if sheet.mode == Mode::Shield { copies } else { 0 };
+    let places = product.tuple(state)[..count + copies].iter().enumerate();
+    let names = places.map(|(place, state)| match place < count {
+        true => format!("\\ns{state}"),
+        false => format!("\\n(s{state})"),
+    });
+    let lost = if lost { "\\nlost" } else { "" };
+    format!("{number}{}{lost}", names.collect::<String>())
+}
+
+/// The labels of a guard: its states are met again by following its table in the product.
+fn guard_labels(sheet: &Sheet, product: &Product, table: &[u8]) -> Vec<String> {
+    let rows: Vec<&[u8]> = table[10..].chunks_exact(4 + (2 << sheet.inputs)).collect();
+    let mut places = vec![None; rows.len()];
+    places[0] = Some(0);
+    for state in 0..rows.len() {
+        for (input, entry) in rows[state][4..].chunks_exact(2).enumerate() {
+            let from = places[state].expect("states are numbered as first met");
+            let to = product.edge(from, input, entry[0].into()).next();
+            places[usize::from(entry[1])] = places[usize::from(entry[1])].or(to);
+        }
+    }
+    let label = |(state, place): (usize, &Option<usize>)| {
+        label(state, sheet, product, place.unwrap(), false)
+    };
+    places.iter().enumerate().map(label).collect()
+}
+
 #[test]
 #[cfg_attr(not(guard_library), ignore = "needs the library: rt staticlib hundlezoqa_c")]
 fn graphs_have_the_tables_edges() {
@@ -112,40 +146,62 @@ fn graphs_have_the_tables_edges() {
         let product = Product::explore(&sheet).expect("accepted");
         let kept = Kept::by_rounds(&product);
         let text = hexadecimal(&bytes);
-        for (words, expected) in [
-            (vec!["dot", "-"], guard_edges(&sheet, &table)),
-            (vec!["dot", "--supervisor", "-"], supervisor_edges(&sheet, &product, &kept)),
+        let told = |state| label(state, &sheet, &product, state, !kept.is_kept(state));
+        let labels: Vec<String> = (0..product.count()).map(told).collect();
+        losing += usize::from(labels.iter().any(|label| label.ends_with("lost")));
+        for (words, expected, labels) in [
+            (vec!["dot", "-"], guard_edges(&sheet, &table), guard_labels(&sheet, &product, &table)),
+            (vec!["dot", "--supervisor", "-"], supervisor_edges(&sheet, &product, &kept), labels),
         ] {
             let done = guard(&words, text.as_bytes());
             assert_eq!((done.status, done.err.as_str()), (0, ""), "case {case}");
-            let (edges, lost) = drawn(&done.text());
+            let (edges, found_labels) = drawn(&done.text());
             let found: BTreeMap<Edge, BTreeSet<usize>> =
                 edges.into_iter().map(|(edge, when)| (edge, inputs(&when, &sheet))).collect();
             assert_eq!(found, expected, "case {case}");
-            let gone = (0..product.count()).filter(|&state| !kept.is_kept(state));
-            let gone: BTreeSet<usize> =
-                if words.len() == 3 { gone.collect() } else { BTreeSet::new() };
-            assert_eq!(lost, gone, "case {case}");
-            losing += usize::from(!gone.is_empty());
+            assert_eq!(found_labels, labels, "case {case}");
         }
         shields += usize::from(sheet.mode == Mode::Shield);
     }
     assert!(shields > 5 && losing > 5, "{shields} shields, {losing} with lost states");
 }
 
-/// README's picture of sheet A's guard has the graph's labels, as many times.
+/// The elements of a kind in a picture, each as its attribute `data-of` and its text.
+fn elements<'a>(picture: &'a str, kind: &str) -> Vec<(&'a str, &'a str)> {
+    let elements = picture.split(kind).skip(1);
+    let read = elements.map(|element| {
+        let of = element.split("data-of=\"").nth(1).and_then(|rest| rest.split('"').next());
+        let text = element.split('>').nth(1).and_then(|rest| rest.split('<').next());
+        (of.unwrap_or(""), text.unwrap_or(""))
+    });
+    read.collect()
+}
+
+/// README's picture of sheet A's guard is its graph: an arrow for each edge, with its label, and for
+/// each state its name.
 #[test]
 #[cfg_attr(not(guard_library), ignore = "needs the library: rt staticlib hundlezoqa_c")]
 fn the_picture_of_sheet_a_is_its_graph() {
     let sheet = common::repository("sheets/A.sheet");
     let graph = guard(&["dot", sheet.to_str().expect("letters")], b"").text();
-    let labels = graph.split("label=\"").skip(1).filter_map(|rest| rest.split('"').next());
-    let mut labels: Vec<&str> = labels.flat_map(|label| label.split("\\n")).collect();
     let picture =
         std::fs::read_to_string(common::repository("docs/pictures/A.svg")).expect("there");
-    let texts = picture.split("<text ").skip(1).filter_map(|rest| rest.split('>').nth(1));
-    let mut texts: Vec<&str> = texts.map(|text| text.trim_end_matches("</text")).collect();
+    // An arrow's sign cannot stand in the picture's attributes.
+    let graph = graph.replace(" -> ", " to ");
+    let mut labels: Vec<(&str, &str)> = Vec::new();
+    for line in graph.lines().filter(|line| line.contains("label=")) {
+        let (of, rest) = line.trim().split_once(" [label=\"").expect("a label");
+        let label = rest.split('"').next().expect("a label");
+        labels.extend(label.split("\\n").map(|text| (of, text)));
+    }
+    let mut texts = elements(&picture, "<text ");
     labels.sort_unstable();
     texts.sort_unstable();
     assert_eq!(texts, labels);
+    let mut arrows: Vec<&str> = elements(&picture, "<path ").iter().map(|arrow| arrow.0).collect();
+    let edges = labels.iter().map(|label| label.0).filter(|of| of.contains(" to "));
+    let mut edges: Vec<&str> = edges.collect();
+    arrows.sort_unstable();
+    edges.sort_unstable();
+    assert_eq!(arrows, edges);
 }

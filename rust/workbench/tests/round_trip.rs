@@ -4,13 +4,8 @@ mod common;
 
 use common::{files, guard, repository};
 use conformance::{cases, generate, seed, Random};
-use workbench::source::{Source, Taken};
+use workbench::source::Source;
 use workbench::text;
-
-/// A sheet's bytes as a file of them.
-fn source(bytes: Vec<u8>) -> Source {
-    Source { file: "test".to_string(), taken: Taken::Bytes, bytes, named: None }
-}
 
 #[test]
 fn generated_sheets_come_back() {
@@ -18,7 +13,7 @@ fn generated_sheets_come_back() {
     for case in 0..cases(3_000) {
         let mut random = Random::new(seed(), case);
         let bytes = generate::any_sheet(&mut random);
-        let Some(named) = source(bytes.clone()).named() else {
+        let Some(named) = Source::of_bytes("test", bytes.clone()).named() else {
             assert!(reference::Sheet::parse(&bytes).is_err(), "case {case}");
             continue;
         };
@@ -36,6 +31,7 @@ fn generated_sheets_come_back() {
 
 /// Through the commands, as a person does it, text by standard input.
 #[test]
+#[cfg_attr(not(guard_library), ignore = "needs the library: rt staticlib hundlezoqa_c")]
 fn show_and_compile_undo_each_other() {
     for case in 0..cases(200) {
         let mut random = Random::new(seed(), case);
@@ -50,6 +46,7 @@ fn show_and_compile_undo_each_other() {
 
 /// The repository's sheets: text and hexadecimal say the same bytes, and names stay.
 #[test]
+#[cfg_attr(not(guard_library), ignore = "needs the library: rt staticlib hundlezoqa_c")]
 fn the_sheets_say_the_same_both_ways() {
     let mut pairs = 0;
     for path in files(repository("sheets"), "sheet") {

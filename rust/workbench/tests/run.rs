@@ -147,7 +147,7 @@ fn unreadable_lines_are_told() {
     let folder = Folder::new("lines");
     let file = folder.file("A.hex");
     std::fs::write(&file, include_str!("../../../sheets/A.hex")).expect("written");
-    let lines = "in0\nin1\nin0 in0\nload now\n300\n!in0 /\n1 1\n%\nin0\n";
+    let lines = "in0,\nin1\nin0 in0\nload now\n300\n!in0 /\n1 1\n%\nin0\n";
     let done = guard(&["run", &file], lines.as_bytes());
     assert_eq!(
         done.text(),

@@ -4,8 +4,9 @@ use guard::{Guard, Refusal, Supervisor, Work};
 use reference::{Fault, Kept, Product, Sheet};
 
 use super::Command;
-use crate::arguments::{Arguments, Options};
+use crate::arguments::Arguments;
 use crate::bench::{Bench, Outcome, Stop};
+use crate::making;
 use crate::source::Source;
 
 pub const COMMAND: Command = Command {
@@ -17,12 +18,13 @@ Prints the number of states and the lengths of both tables; or the refusal's num
 the record and byte where it is found. The number is the proved library's. The place is told by an
 independent reader; should that one differ, the number stands alone and the exit status is 3.
 ",
+    files: 1,
+    options: &[],
     run,
 };
 
-fn run(words: &[String], bench: &mut Bench) -> Outcome {
-    let arguments = Arguments::read(words, Options::default())?;
-    let source = Source::read(&arguments.file, bench)?;
+fn run(arguments: &Arguments, bench: &mut Bench) -> Outcome {
+    let source = Source::read(arguments.file(0), bench)?;
     let mut work = Work::new();
     let tables = Supervisor::make(&source.bytes, &mut work)
         .and_then(|supervisor| Ok((supervisor, Guard::make(&source.bytes, &mut work)?)));
@@ -79,38 +81,27 @@ fn refused(
 ) -> Outcome {
     if number != refusal.number() {
         writeln!(bench.out, "refused {}", refusal.number())?;
-        return Err(differs(bench));
+        return Err(bench.differs());
     }
     writeln!(bench.out, "{}: {refusal}", source.file)?;
     if let Some(place) = place {
         writeln!(bench.out, "  {place}")?;
-        bench.say(format!("{}: {}", source.file, source.taken.reason()));
     }
-    if source.is_table() {
-        bench.say("it begins as a guard table does: list, dot and run take those");
-    }
+    making::hint(refusal, source, bench);
     Err(Stop::Refused)
-}
-
-/// The library and the reference do not agree: what only the reference knows is not told.
-pub fn differs(bench: &mut Bench) -> Stop {
-    bench.say("the reference, which tells places and names, differs from the library here");
-    Stop::Differs
 }
 
 #[cfg(test)]
 mod tests {
     use super::*;
-    use crate::source::Taken;
 
-    /// Tells a refusal 4, whatever the reference finds.
-    fn told(found: (u32, Option<String>)) -> (u8, String) {
-        let source =
-            Source { file: "it".to_string(), taken: Taken::Bytes, bytes: vec![0; 4], named: None };
+    /// Tells a refusal, whatever the reference finds.
+    fn told(refusal: Refusal, found: (u32, Option<String>)) -> (u8, String) {
+        let source = Source::of_bytes("it", vec![0; 4]);
         let (mut out, mut err) = (Vec::new(), Vec::new());
-        let mut bench =
-            Bench { input: &mut std::io::empty(), out: &mut out, err: &mut err, terminal: false };
-        let stop = refused(&source, Refusal::BadMonitor, found, &mut bench).unwrap_err();
+        let input = &mut std::io::empty();
+        let mut bench = Bench { input, out: &mut out, err: &mut err, terminal: false };
+        let stop = refused(&source, refusal, found, &mut bench).unwrap_err();
         (stop.status(), String::from_utf8(out).unwrap())
     }
 
@@ -118,9 +109,15 @@ mod tests {
     fn where_the_reference_differs_the_number_stands_alone() {
         let place = Some("record 1, byte 4: a word".to_string());
         for number in [0, 1, 3, 5, 8] {
-            assert_eq!(told((number, place.clone())), (3, "refused 4\n".to_string()));
+            let alone = (3, "refused 4\n".to_string());
+            assert_eq!(told(Refusal::BadMonitor, (number, place.clone())), alone);
+            assert_eq!(told(Refusal::BadMonitor, (number, None)), alone);
         }
-        let (status, out) = told((4, place));
+        for number in [0, 4, 7] {
+            assert_eq!(told(Refusal::Unrealizable, (number, None)), (3, "refused 8\n".to_string()));
+        }
+        let (status, out) = told(Refusal::BadMonitor, (4, place));
         assert_eq!((status, out.lines().nth(1)), (1, Some("  record 1, byte 4: a word")));
+        assert_eq!(told(Refusal::Unrealizable, (8, None)).0, 1);
     }
 }

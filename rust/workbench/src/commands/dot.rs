@@ -5,12 +5,12 @@ use std::collections::BTreeMap;
 use guard::sheet::Mode;
 use guard::{Guard, Supervisor};
 
-use super::{check, Command};
-use crate::arguments::{Arguments, Options};
+use super::Command;
+use crate::arguments::{Arguments, SUPERVISOR};
 use crate::bench::{Bench, Outcome, Stop};
 use crate::making;
 use crate::names::Names;
-use crate::source::{mode_of, Source};
+use crate::source::Source;
 use crate::states::States;
 use crate::text::{condition_for, Letters};
 
@@ -19,12 +19,17 @@ pub const COMMAND: Command = Command {
     usage: "FILE [--supervisor]",
     about: "a guard, or the supervisor, as a graph for Graphviz",
     help: "\
-A state has its number and, for a sheet, the monitors' states that it stands for. An edge has the
+A state has its number and, for a sheet, the monitors' states that it stands for in their order, then in
+brackets those of the copies that read a shield's proposal. An edge has the
 inputs it is taken at, a colon and the output; edges that differ only in the input are one, `any` is
 every input, and a line of a shield's proposal is written with a question mark: `tray & open?: !open`.
 With --supervisor the product states with every step that breaks nothing: lost states are grey, and
-steps that are not allowed dashed. Draw it by: guard dot FILE | dot -Tsvg -o FILE.svg
+steps that are not allowed dashed. What a state stands for, and where a step of the supervisor ends, is
+told by an independent implementation, and only where its supervisor table is the library's.
+Draw it by: guard dot FILE | dot -Tsvg -o FILE.svg
 ",
+    files: 1,
+    options: &[SUPERVISOR],
     run,
 };
 
@@ -39,10 +44,9 @@ struct Graph {
     edges: Edges,
 }
 
-fn run(words: &[String], bench: &mut Bench) -> Outcome {
-    let arguments = Arguments::read(words, Options { supervisor: true, ..Options::default() })?;
-    let source = Source::read(&arguments.file, bench)?;
-    let (graph, names, mode) = match arguments.supervisor {
+fn run(arguments: &Arguments, bench: &mut Bench) -> Outcome {
+    let source = Source::read(arguments.file(0), bench)?;
+    let (graph, names, mode) = match arguments.has(&SUPERVISOR) {
         true => supervisor_graph(&source, bench)?,
         false => guard_graph(&source, bench)?,
     };
@@ -63,7 +67,7 @@ fn guard_graph(source: &Source, bench: &mut Bench) -> Result<(Graph, Names, Mode
         false => guard_labels(source, &guard, bench)?,
     };
     let states = labels.into_iter().map(|label| (label, false)).collect();
-    Ok((Graph { name: "guard", states, edges }, source.names_for(&guard), mode_of(&guard)))
+    Ok((Graph { name: "guard", states, edges }, source.names_for(&guard), guard.mode()))
 }
 
 /// The monitors' states that each guard state stands for.
@@ -79,14 +83,14 @@ fn guard_labels(
         (Some(states), Some(places)) => {
             Ok(places.into_iter().map(|place| label(&states, place)).collect())
         }
-        _ => Err(check::differs(bench)),
+        _ => Err(bench.differs()),
     }
 }
 
 fn supervisor_graph(source: &Source, bench: &mut Bench) -> Result<(Graph, Names, Mode), Stop> {
     let supervisor = making::supervisor(source, bench)?;
     let Some(states) = States::of(source, &supervisor) else {
-        return Err(check::differs(bench));
+        return Err(bench.differs());
     };
     let edges = supervisor_edges(&supervisor, &states);
     let drawn = (0..supervisor.states())

@@ -1,13 +1,12 @@
 //! `guard list`: the listing of a guard.
 
+use reference::SHEET_BYTES_MOST;
+
 use super::Command;
-use crate::arguments::{Arguments, Options};
+use crate::arguments::Arguments;
 use crate::bench::{Bench, Outcome, Stop};
 use crate::making;
 use crate::source::Source;
-
-/// The longest sheet that is listed.
-const SHEET_BYTES_MOST: usize = 16_384;
 
 pub const COMMAND: Command = Command {
     name: "list",
@@ -17,15 +16,17 @@ pub const COMMAND: Command = Command {
 The first line has states, inputs, outputs and horizon; then comes a line for each state with
 output>next state for each input, ascending. A refused sheet is listed as `refused N`.
 ",
+    files: 1,
+    options: &[],
     run,
 };
 
-fn run(words: &[String], bench: &mut Bench) -> Outcome {
-    let arguments = Arguments::read(words, Options::default())?;
-    let source = Source::read(&arguments.file, bench)?;
+fn run(arguments: &Arguments, bench: &mut Bench) -> Outcome {
+    let source = Source::read(arguments.file(0), bench)?;
     if source.bytes.len() > SHEET_BYTES_MOST && !source.is_table() {
         writeln!(bench.out, "too long")?;
-        bench.say(format!("{}: more than {SHEET_BYTES_MOST} bytes", source.file));
+        let most = format!("more than {SHEET_BYTES_MOST} bytes");
+        bench.say(format!("{}: {most}; {}", source.file, source.reason()));
         return Err(Stop::Refused);
     }
     let listing = making::guard_or_refusal(&source).and_then(|guard| guard.listing());

@@ -1,14 +1,16 @@
 //! `guard run`: a board at work.
 
+use std::io::{BufRead, Read};
+
 use guard::sheet::Mode;
 use guard::{Board, Guard, Refusal};
 
 use super::Command;
-use crate::arguments::{Arguments, Options};
+use crate::arguments::Arguments;
 use crate::bench::{Bench, Outcome, Stop};
 use crate::making;
 use crate::names::Names;
-use crate::source::{mode_of, Source};
+use crate::source::Source;
 use crate::tap::{self, Call};
 
 pub const COMMAND: Command = Command {
@@ -16,14 +18,20 @@ pub const COMMAND: Command = Command {
     usage: "FILE",
     about: "a board at work, a line of standard input for each call",
     help: "\
-The board is loaded when it begins. A line is an input: its number, or the names of the lines that
-are on, as `tray !lid`; lines not named are off. A shield reads the site's lines, a slash and the
-proposal: `tray / open`. Or it is one of rewind, unload and load. Blank lines and what comes after #
-are passed over. Each answer is a line: the output by names, the state, the steps and the deviations;
-or the refusal. It goes on after a refusal and then exits 1 at the end.
+The board is loaded when it begins. A line is an input: its number (0 alone where there are no lines
+in), or the names of the lines that are on, as `tray !lid`; lines not named are off. A shield reads the
+site's lines, a slash and the proposal: `tray / open`. Or a line is one of rewind, unload and load. Blank
+lines and what comes after # are passed over. Each call is answered by a line: the output by names, the
+state, the steps and the deviations; or the refusal. A line that cannot be read calls nothing, and is told
+on standard error. The run goes on after both, and then exits 1 at the end. FILE cannot be - here.
 ",
+    files: 1,
+    options: &[],
     run,
 };
+
+/// The longest line that is read.
+const LINE_MOST: u64 = 1 << 16;
 
 /// A board, the table it runs by, and whether any call was refused.
 struct Run {
@@ -34,28 +42,21 @@ struct Run {
     refused: bool,
 }
 
-fn run(words: &[String], bench: &mut Bench) -> Outcome {
-    let arguments = Arguments::read(words, Options::default())?;
-    if arguments.file == "-" {
+fn run(arguments: &Arguments, bench: &mut Bench) -> Outcome {
+    if arguments.file(0) == "-" {
         let what = "standard input has the calls: FILE cannot be - here";
         return Err(Stop::Use(what.into()));
     }
-    let source = Source::read(&arguments.file, bench)?;
+    let source = Source::read(arguments.file(0), bench)?;
     let guard = making::guard(&source, bench)?;
-    let (names, mode) = (source.names_for(&guard), mode_of(&guard));
+    let (names, mode) = (source.names_for(&guard), guard.mode());
     let mut run = Run { board: Board::new(), guard, names, mode, refused: false };
     run.board.load(&run.guard).map_err(|refusal| making::refuse(refusal, &source, bench))?;
     run.greet(bench);
     let mut number = 0;
-    loop {
-        run.prompt(bench)?;
-        let mut line = Vec::new();
-        let read = bench.input.read_until(b'\n', &mut line);
-        match read.map_err(|error| Stop::File(format!("standard input: {error}")))? {
-            0 => break,
-            _ => number += 1,
-        }
-        run.take_line(String::from_utf8_lossy(&line).trim_end(), number, bench)?;
+    while let Some(line) = run.next_line(bench)? {
+        number += 1;
+        run.take_line(&line, number, bench)?;
     }
     if bench.terminal {
         writeln!(bench.out)?;
@@ -71,6 +72,7 @@ impl Run {
         if bench.terminal {
             let (site, out) = (self.names.lines_in.join(" "), self.names.lines_out.join(" "));
             let form = match self.mode {
+                Mode::Controller if site.is_empty() => "0, since there are no lines in".to_string(),
                 Mode::Controller => site,
                 Mode::Shield => format!("{site} / {out}"),
             };
@@ -78,12 +80,21 @@ impl Run {
         }
     }
 
-    fn prompt(&self, bench: &mut Bench) -> Outcome {
+    /// The next line of standard input, after a prompt where somebody sits there.
+    fn next_line(&self, bench: &mut Bench) -> Result<Option<String>, Stop> {
         if bench.terminal {
             write!(bench.out, "> ")?;
             bench.out.flush()?;
         }
-        Ok(())
+        let mut line = Vec::new();
+        let read = Read::take(&mut *bench.input, LINE_MOST + 1).read_until(b'\n', &mut line);
+        match read.map_err(|error| Stop::File(format!("standard input: {error}")))? as u64 {
+            0 => Ok(None),
+            length if length > LINE_MOST => {
+                Err(Stop::File(format!("standard input: a line of more than {LINE_MOST} bytes")))
+            }
+            _ => Ok(Some(String::from_utf8_lossy(&line).trim_end().to_string())),
+        }
     }
 
     fn take_line(&mut self, line: &str, number: usize, bench: &mut Bench) -> Outcome {
@@ -99,7 +110,7 @@ impl Run {
             Err(fault) => {
                 // A line that cannot be read calls nothing.
                 self.refused = true;
-                let _ = write!(bench.err, "{}", fault.on_line("standard input", line));
+                bench.tell(fault.on_line("standard input", line));
             }
         }
         Ok(())

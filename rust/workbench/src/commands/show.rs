@@ -1,7 +1,7 @@
 //! `guard show`: a sheet as a text sheet.
 
 use super::Command;
-use crate::arguments::{Arguments, Options};
+use crate::arguments::Arguments;
 use crate::bench::{Bench, Outcome};
 use crate::source::Source;
 use crate::{making, text};
@@ -14,19 +14,15 @@ pub const COMMAND: Command = Command {
 Writes every state and row of the sheet, in order. What has no name is given one: lines in0, in1 and
 out0, monitors hard0 and soft1, states s0. The text compiles to the same bytes.
 ",
+    files: 1,
+    options: &[],
     run,
 };
 
-fn run(words: &[String], bench: &mut Bench) -> Outcome {
-    let arguments = Arguments::read(words, Options::default())?;
-    let source = Source::read(&arguments.file, bench)?;
-    let Some(named) = source.named() else {
-        // Out of bounds: the library says by which number.
-        return Err(match making::supervisor(&source, bench) {
-            Err(stop) => stop,
-            Ok(_) => super::check::differs(bench),
-        });
-    };
+fn run(arguments: &Arguments, bench: &mut Bench) -> Outcome {
+    let source = Source::read(arguments.file(0), bench)?;
+    making::in_bounds(&source, bench)?;
+    let Some(named) = source.named() else { return Err(bench.differs()) };
     bench.out.write_all(text::show(&named).as_bytes())?;
     Ok(())
 }

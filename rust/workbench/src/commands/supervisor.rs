@@ -2,8 +2,8 @@
 
 use guard::Supervisor;
 
-use super::{check, Command};
-use crate::arguments::{Arguments, Options};
+use super::Command;
+use crate::arguments::Arguments;
 use crate::bench::{Bench, Outcome};
 use crate::making;
 use crate::source::Source;
@@ -18,15 +18,16 @@ For each product state the monitors' states that it stands for (after a ; those 
 read a shield's proposal), then for each input every output that can still be survived. A state is
 lost where some input leaves none.
 ",
+    files: 1,
+    options: &[],
     run,
 };
 
-fn run(words: &[String], bench: &mut Bench) -> Outcome {
-    let arguments = Arguments::read(words, Options::default())?;
-    let source = Source::read(&arguments.file, bench)?;
+fn run(arguments: &Arguments, bench: &mut Bench) -> Outcome {
+    let source = Source::read(arguments.file(0), bench)?;
     let supervisor = making::supervisor(&source, bench)?;
     let Some(states) = States::of(&source, &supervisor) else {
-        return Err(check::differs(bench));
+        return Err(bench.differs());
     };
     for state in 0..supervisor.states() {
         let lost = if supervisor.is_kept(state) { "" } else { ", lost" };

@@ -1,5 +1,7 @@
 //! From a draft to the sheet, with every fault that is in it.
 
+use std::collections::HashMap;
+
 use guard::sheet::{Literal, Mode, Role, Sheet};
 
 use super::draft::{Draft, DraftMonitor};
@@ -52,24 +54,28 @@ pub fn judge(draft: &Draft, end: Place, found: &mut Findings) -> Named {
         list.as_ref().is_none_or(|(words, _)| words.len() == kept.len())
     };
     let lists = whole(&draft.lines_in, &lines_in) && whole(&draft.lines_out, &lines_out);
-    let readable = fits && lists && draft.lines_out.is_some() && !faulty("in") && !faulty("out");
+    let heard = !faulty("in") && !faulty("out") && (draft.lines_in.is_some() || !draft.misses_head);
+    let readable = fits && lists && heard && draft.lines_out.is_some();
     judge_monitors(draft, readable, &mut named, found);
     named
 }
 
-/// A fault for each line of the head that is not there.
+/// A fault for each statement of the head that is not there.
 fn judge_missing(draft: &Draft, end: Place, found: &mut Findings) {
-    let place = draft.monitors.first().map_or(end, |monitor| monitor.place);
-    let lines = [
+    let first = draft.monitors.first().map(|monitor| monitor.place);
+    let before = if first.is_some() { " before this" } else { "" };
+    let statements = [
         ("mode", draft.mode.is_some(), "`mode controller` or `mode shield`"),
         ("out", draft.lines_out.is_some(), "`out` and the names of one to three lines"),
         ("horizon", draft.horizon.is_some(), "`horizon` and a number"),
         ("prefer", draft.prefer.is_some(), "`prefer` and every line out once"),
     ];
-    for (line, there, expected) in lines {
-        if !there && !draft.faulty.iter().any(|faulty| faulty == line) {
-            let what = format!("the head has no line `{line}`");
-            found.faults.push(Fault::new(place, what, format!("{expected} before this")));
+    for (word, there, expected) in statements {
+        let unread = draft.misses_head || draft.faulty.iter().any(|faulty| faulty == word);
+        if !there && !unread {
+            let what = format!("the head has no `{word}`");
+            let expected = format!("{expected}{before}");
+            found.faults.push(Fault::new(first.unwrap_or(end), what, expected));
         }
     }
 }
@@ -91,12 +97,21 @@ fn judge_lines(
 
 /// A fault for each name that stands before too.
 pub fn judge_distinct(words: &[Word], of: &str, found: &mut Findings) {
-    for (number, word) in words.iter().enumerate() {
-        if let Some(earlier) = words[..number].iter().find(|earlier| earlier.text == word.text) {
-            let what = format!("a second {of} `{}`, after line {}", word.text, earlier.place.line);
+    let mut first: HashMap<&str, Place> = HashMap::new();
+    for word in words {
+        let earlier = *first.entry(&word.text).or_insert(word.place);
+        if earlier != word.place {
+            let what = format!("a second {of} named `{}`, after line {}", word.text, earlier.line);
             found.faults.push(Fault::new(word.place, what, "a name of its own"));
         }
     }
+}
+
+/// Some names, as many as a reader takes in.
+pub fn some_of(names: &[&str]) -> String {
+    const SHOWN: usize = 8;
+    let more = if names.len() > SHOWN { ", .." } else { "" };
+    format!("{}{more}", names[..names.len().min(SHOWN)].join(", "))
 }
 
 /// Whether the guard has no more inputs and lines than it may.
@@ -149,8 +164,12 @@ fn judge_order(draft: &Draft, found: &mut Findings) -> Vec<Literal> {
     let (Some((order, place)), Some((lines_out, _))) = (&draft.prefer, &draft.lines_out) else {
         return Vec::new();
     };
+    if lines_out.len() > LINES_OUT_MOST {
+        return Vec::new();
+    }
     let lines_out: Vec<&str> = lines_out.iter().map(|word| word.text.as_str()).collect();
     let expected = format!("every line out once: {}", lines_out.join(", "));
+    let known = found.faults.len();
     let mut literals: Vec<Literal> = Vec::new();
     for (word, on) in order {
         let Some(line) = lines_out.iter().position(|&line| line == word.text) else {
@@ -164,10 +183,11 @@ fn judge_order(draft: &Draft, found: &mut Findings) -> Vec<Literal> {
         }
         literals.push(Literal { line: line as u8, on: *on });
     }
-    let named = |line: usize| literals.iter().any(|literal| usize::from(literal.line) == line);
-    if let Some(line) = (0..lines_out.len()).find(|&line| !named(line)) {
-        let what = format!("`{}` is not named", lines_out[line]);
-        found.faults.push(Fault::new(*place, what, &expected));
+    let named = |name: &&&str| order.iter().any(|(word, _)| word.text == **name);
+    let missing: Vec<&str> = lines_out.iter().filter(|name| !named(name)).copied().collect();
+    if !missing.is_empty() && found.faults.len() == known {
+        let what = format!("without {}", missing.join(", "));
+        found.faults.push(Fault::new(*place, what, expected));
     }
     literals
 }
@@ -176,7 +196,7 @@ fn judge_monitors(draft: &Draft, readable: bool, named: &mut Named, found: &mut 
     let openings: Vec<Word> =
         draft.monitors.iter().filter_map(|monitor| monitor.opening.name.clone()).collect();
     judge_distinct(&openings, "monitor", found);
-    for (number, draft_monitor) in draft.monitors.iter().enumerate() {
+    for (number, draft_monitor) in draft.monitors.iter().enumerate().take(MONITORS_MOST + 1) {
         let DraftMonitor { opening, place, .. } = draft_monitor;
         if number == MONITORS_MOST {
             let what = "a seventh monitor";

@@ -60,7 +60,7 @@ impl Condition {
     }
 
     fn read_not(&mut self, line: &mut Line, depth: usize) -> Result<(), Fault> {
-        if depth == DEPTH_MOST {
+        if depth > DEPTH_MOST {
             let what = format!("more than {DEPTH_MOST} parentheses and `!` within each other");
             return Err(line.fault(what, "a condition of fewer levels"));
         }

@@ -1,6 +1,7 @@
 //! Conditions for sets of letters, as short as is easily found.
 
 use super::condition::{all_letters, letters_with, Letters};
+use crate::names::literal;
 
 /// Some lines, and how they stand: bit j of both for line j.
 #[derive(Clone, Copy)]
@@ -46,9 +47,6 @@ pub fn condition(set: Letters, names: &[String]) -> String {
 
 fn write(term: &Term, names: &[String]) -> String {
     let reads = names.iter().enumerate().filter(|(line, _)| term.lines >> line & 1 == 1);
-    let stands = |(line, name): (usize, &String)| match term.on >> line & 1 {
-        1 => name.clone(),
-        _ => format!("!{name}"),
-    };
+    let stands = |(line, name): (usize, &String)| literal(name, term.on >> line & 1 == 1);
     reads.map(stands).collect::<Vec<_>>().join(" & ")
 }

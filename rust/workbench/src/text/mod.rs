@@ -34,16 +34,20 @@ pub fn compile(text: &str) -> Result<(Named, Vec<Fault>), Vec<Fault>> {
     let text = text.strip_prefix(BYTE_ORDER_MARK).unwrap_or(text);
     let mut found = Findings::default();
     let mut draft = Draft::default();
+    // The last line that says something.
     let mut end = Place { line: 1, column: 1 };
     for (index, text) in text.lines().enumerate() {
-        end.line = index + 1;
         let mut faults = Vec::new();
-        let words = words::words(text, end.line, &mut faults);
+        let words = words::words(text, index + 1, &mut faults);
         let spelled = faults.is_empty();
         if let Some(mut line) = Line::new(words) {
             let place = line.place();
-            let statement = statement::read(&mut line, &mut faults);
+            let mut statement = statement::read(&mut line, &mut faults);
+            if !spelled {
+                statement.misspell();
+            }
             faults.extend(draft.add(statement, place).err());
+            end = place;
         }
         // After a character that means nothing the rest of its line is not judged.
         faults.truncate(if spelled { faults.len() } else { 1 });

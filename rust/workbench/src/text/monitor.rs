@@ -2,9 +2,9 @@
 
 use guard::sheet::Monitor;
 
-use super::compile::{judge_distinct, Findings};
+use super::compile::{judge_distinct, some_of, Findings};
 use super::condition::{all_letters, Letters};
-use super::draft::{DraftMonitor, DraftState};
+use super::draft::{DraftMonitor, DraftState, Rule};
 use super::statement::When;
 use super::words::Word;
 use crate::names::setting;
@@ -18,9 +18,9 @@ pub fn judge_monitor(
     lines: Option<&[String]>,
     found: &mut Findings,
 ) -> (Monitor, Vec<String>) {
-    let DraftMonitor { opening, place, states } = draft;
-    if states.is_empty() {
-        let expected = "`state NAME start` and its transitions below it";
+    let DraftMonitor { opening, place, states, faulty } = draft;
+    if states.is_empty() && !faulty {
+        let expected = "`state NAME start` and its rules below it";
         found.faults.push(Fault::new(*place, "a monitor without states", expected));
     }
     if let Some(beyond) = states.get(STATES_MOST) {
@@ -29,17 +29,26 @@ pub fn judge_monitor(
     }
     let words: Vec<Word> = states.iter().filter_map(|state| state.opening.name.clone()).collect();
     judge_distinct(&words, "state", found);
-    let names: Vec<String> = states
-        .iter()
-        .map(|state| state.opening.name.as_ref().map_or(String::new(), |word| word.text.clone()))
-        .collect();
+    let name =
+        |state: &DraftState| state.opening.name.as_ref().map_or("", |word| &word.text).to_string();
+    let names: Vec<String> = states.iter().map(name).collect();
     let start = judge_start(draft, found);
-    let rows = states.iter().map(|state| judge_state(state, lines, &names, found));
+    // Where a line of a state has a fault, its name may be another.
+    let told = !faulty && states.iter().all(|state| !state.opening.faulty);
+    let mut rows = Vec::new();
+    for state in states.iter().take(STATES_MOST + 1) {
+        if told {
+            judge_targets(state, &names, found);
+        }
+        if let Some(lines) = lines {
+            rows.extend(judge_rules(state, lines, &names, found));
+        }
+    }
     let monitor = Monitor {
         role: opening.role,
         weight: opening.weight,
         start: start as u8,
-        next: rows.collect::<Vec<_>>().concat(),
+        next: rows,
         accepts: states.iter().map(|state| state.opening.accepts).collect(),
     };
     (monitor, names)
@@ -56,7 +65,7 @@ fn judge_start(draft: &DraftMonitor, found: &mut Findings) -> usize {
         found.faults.push(Fault::new(again, what, format!("one alone, as on line {line}")));
     }
     // A state whose line has a fault may have been the start.
-    let told = draft.states.iter().all(|state| state.opening.name.is_some());
+    let told = !draft.faulty && draft.states.iter().all(|state| !state.opening.faulty);
     if first.is_none() && told && !draft.states.is_empty() {
         let what = "a monitor without a start";
         found.faults.push(Fault::new(draft.place, what, "`start` on one of its states"));
@@ -64,25 +73,30 @@ fn judge_start(draft: &DraftMonitor, found: &mut Findings) -> usize {
     first.map_or(0, |(number, _)| number)
 }
 
-/// A state's row: the first transition whose condition holds is taken.
-fn judge_state(
-    state: &DraftState,
-    lines: Option<&[String]>,
-    names: &[String],
-    found: &mut Findings,
-) -> Vec<u8> {
-    for (_, to, _) in &state.transitions {
+/// A fault for each rule that leads to no state of the monitor.
+fn judge_targets(state: &DraftState, names: &[String], found: &mut Findings) {
+    for Rule { to, .. } in &state.rules {
         if !names.contains(&to.text) {
             let what = format!("the monitor has no state `{}`", to.text);
-            let expected = format!("one of its states: {}", names.join(", "));
+            let known: Vec<&str> =
+                names.iter().map(String::as_str).filter(|name| !name.is_empty()).collect();
+            let expected = format!("one of its states: {}", some_of(&known));
             found.faults.push(Fault::new(to.place, what, expected));
         }
     }
-    let Some(lines) = lines else { return Vec::new() };
+}
+
+/// A state's row: for each letter the first rule whose condition holds is taken.
+fn judge_rules(
+    state: &DraftState,
+    lines: &[String],
+    names: &[String],
+    found: &mut Findings,
+) -> Vec<u8> {
     let mut row = vec![0; 1 << lines.len()];
     let mut left = all_letters(lines.len());
     let mut known = !state.faulty;
-    for (when, to, place) in &state.transitions {
+    for Rule { when, to, place } in &state.rules {
         let holds = match when {
             When::Else => left,
             When::Holds(condition) => {
@@ -135,6 +149,6 @@ fn judge_names<'a>(
 fn uncovered(state: &DraftState, left: Letters, lines: &[String]) -> Fault {
     let letter = setting(lines, left.trailing_zeros() as u8);
     let name = state.opening.name.as_ref().map_or("", |word| word.text.as_str());
-    let what = format!("no transition of state `{name}` covers the letter {letter}");
+    let what = format!("no rule of state `{name}` covers the letter {letter}");
     Fault::new(state.place, what, "a condition that holds there, or `else -> STATE`")
 }

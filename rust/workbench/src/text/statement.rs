@@ -4,7 +4,7 @@ use guard::sheet::{Mode, Role};
 
 use super::condition::Condition;
 use super::line::Line;
-use super::words::Word;
+use super::words::{Word, HEAD, STATEMENTS};
 use crate::place::{Fault, Place};
 
 /// The longest horizon.
@@ -21,7 +21,7 @@ pub enum Head {
     Prefer(Vec<(Word, bool)>),
 }
 
-/// When a transition is taken.
+/// When a rule is taken.
 #[derive(Clone, Debug, PartialEq, Eq)]
 pub enum When {
     Holds(Condition),
@@ -42,6 +42,19 @@ pub struct State {
     pub name: Option<Word>,
     pub start: Option<Place>,
     pub accepts: bool,
+    /// Whether its line has a fault, so that a mark on it may not have been seen.
+    pub faulty: bool,
+}
+
+/// A line with a fault, by what it was to be.
+#[derive(Clone, Debug, PartialEq, Eq)]
+pub enum Unread {
+    /// A statement of the head, by its first word.
+    Head(String),
+    /// A rule.
+    Rule,
+    /// What begins with a word that no statement begins with.
+    Other,
 }
 
 /// A line's statement.
@@ -50,9 +63,20 @@ pub enum Statement {
     Head(Head),
     Monitor(Opening),
     State(State),
-    Transition(When, Word),
-    /// A line with a fault, by its first word: what it would have said is not missed.
-    Faulty(String),
+    Rule(When, Word),
+    Unread(Unread),
+}
+
+impl Statement {
+    /// Takes account of a character in the line that was passed over: what seemed to be no statement
+    /// may well have been a rule, and a state may have another name.
+    pub fn misspell(&mut self) {
+        match self {
+            Statement::Unread(unread @ Unread::Other) => *unread = Unread::Rule,
+            Statement::State(state) => state.faulty = true,
+            _ => {}
+        }
+    }
 }
 
 /// Reads a line that has a word. An opening is there even where a fault cuts it short, so that what
@@ -65,15 +89,17 @@ pub fn read(line: &mut Line, faults: &mut Vec<Fault>) -> Statement {
         "limit" => Role::Limit,
         "state" => {
             line.take(&keyword);
-            let mut state = State { name: None, start: None, accepts: false };
-            faults.extend(state.read(line).err());
-            return Statement::State(state);
+            return Statement::State(State::read(line, faults));
         }
         _ => {
-            let statement = read_whole(line, &keyword);
+            let unread = Statement::Unread(unread(line, &keyword));
+            let statement = match HEAD.contains(&keyword.as_str()) {
+                true => read_head(line, &keyword),
+                false => read_rule(line),
+            };
             return statement.unwrap_or_else(|fault| {
                 faults.push(fault);
-                Statement::Faulty(keyword)
+                unread
             });
         }
     };
@@ -82,6 +108,21 @@ pub fn read(line: &mut Line, faults: &mut Vec<Fault>) -> Statement {
     let mut opening = Opening { role, name: None, weight: u8::from(role == Role::Soft) };
     faults.extend(opening.read(line).err());
     Statement::Monitor(opening)
+}
+
+/// What a line was to be, if it has a fault.
+fn unread(line: &Line, keyword: &str) -> Unread {
+    match HEAD.contains(&keyword) {
+        true => Unread::Head(keyword.to_string()),
+        false if is_rule(line) => Unread::Rule,
+        false => Unread::Other,
+    }
+}
+
+/// Whether a line is meant as a rule: it has a word or a sign that no other line begins with or has.
+fn is_rule(line: &Line) -> bool {
+    let signs = ["->", "&", "|", "!", "(", ")"];
+    line.peek().is_some_and(|word| word.is("else")) || signs.iter().any(|sign| line.has(sign))
 }
 
 impl Opening {
@@ -101,40 +142,39 @@ impl Opening {
 }
 
 impl State {
-    fn read(&mut self, line: &mut Line) -> Result<(), Fault> {
-        self.name = Some(line.name("a name for the state")?);
-        while let Some(word) = line.take_if(|word| word.is("start") || word.is("accept")) {
-            let again = match word.is("start") {
-                true => self.start.replace(word.place).is_some(),
-                false => std::mem::replace(&mut self.accepts, true),
+    /// Reads a name and marks. After a fault the marks that are still to come are looked for.
+    fn read(line: &mut Line, faults: &mut Vec<Fault>) -> State {
+        let mut state = State { name: None, start: None, accepts: false, faulty: false };
+        let known = faults.len();
+        match line.name("a name for the state") {
+            Ok(name) => state.name = Some(name),
+            Err(fault) => faults.push(fault),
+        }
+        while line.peek().is_some() {
+            let unlike = line.unlike("`start`, `accept` or the end of the line");
+            let place = line.place();
+            let again = match line.take_if(|_| true) {
+                Some(word) if word.is("start") => state.start.replace(place).is_some(),
+                Some(word) if word.is("accept") => std::mem::replace(&mut state.accepts, true),
+                _ => {
+                    faults.push(unlike);
+                    continue;
+                }
             };
             if again {
-                let what = format!("`{}` stands twice on one state", word.text);
-                return Err(Fault::new(word.place, what, "it once"));
+                faults.push(Fault::new(place, "this mark stands twice on one state", "it once"));
             }
         }
-        match line.peek() {
-            Some(_) => Err(line.unlike("`start`, `accept` or the end of the line")),
-            None => Ok(()),
-        }
+        // One fault a line is enough.
+        faults.truncate(known + 1);
+        state.faulty = faults.len() > known;
+        state
     }
 }
 
-/// A statement that is there whole or not at all.
-fn read_whole(line: &mut Line, keyword: &str) -> Result<Statement, Fault> {
+fn read_head(line: &mut Line, keyword: &str) -> Result<Statement, Fault> {
+    line.take(keyword);
     let head = match keyword {
-        "mode" | "in" | "out" | "horizon" | "match" | "prefer" => {
-            line.take(keyword);
-            read_head(line, keyword)?
-        }
-        _ => return read_transition(line),
-    };
-    line.end()?;
-    Ok(Statement::Head(head))
-}
-
-fn read_head(line: &mut Line, keyword: &str) -> Result<Head, Fault> {
-    Ok(match keyword {
         "mode" if line.take("controller") => Head::Mode(Mode::Controller),
         "mode" if line.take("shield") => Head::Mode(Mode::Shield),
         "mode" => return Err(line.unlike("`controller` or `shield`")),
@@ -149,7 +189,9 @@ fn read_head(line: &mut Line, keyword: &str) -> Result<Head, Fault> {
             let on = !line.take("!");
             Ok((line.name("the name of a line out, or `!` and one")?, on))
         })?),
-    })
+    };
+    line.end()?;
+    Ok(Statement::Head(head))
 }
 
 /// One or more, separated by blanks or commas.
@@ -164,19 +206,19 @@ fn read_list<T>(
     Ok(list)
 }
 
-fn read_transition(line: &mut Line) -> Result<Statement, Fault> {
-    if !line.has("->") {
-        let expected = "mode, in, out, horizon, match, prefer, hard, soft, limit, state, or CONDITION -> STATE";
-        return Err(line.unlike(expected));
+/// `CONDITION -> STATE` or `else -> STATE`.
+fn read_rule(line: &mut Line) -> Result<Statement, Fault> {
+    if !is_rule(line) {
+        return Err(line.unlike(format!("{}, or CONDITION -> STATE", STATEMENTS.join(", "))));
     }
-    let when = match line.take("else") {
-        true => When::Else,
-        false => When::Holds(Condition::read(line)?),
+    let (when, expected) = match line.take("else") {
+        true => (When::Else, "`->`"),
+        false => (When::Holds(Condition::read(line)?), "`->`, `&` or `|`"),
     };
     if !line.take("->") {
-        return Err(line.unlike("`->`, `&` or `|`"));
+        return Err(line.unlike(expected));
     }
     let to = line.name("the name of a state")?;
     line.end()?;
-    Ok(Statement::Transition(when, to))
+    Ok(Statement::Rule(when, to))
 }

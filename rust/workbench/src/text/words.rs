@@ -34,6 +34,13 @@ pub const RESERVED: [&str; 23] = [
 pub const STATEMENTS: [&str; 10] =
     ["mode", "in", "out", "horizon", "match", "prefer", "hard", "soft", "limit", "state"];
 
+/// Those of the head.
+pub const HEAD: [&str; 6] = ["mode", "in", "out", "horizon", "match", "prefer"];
+
+/// What a line is made of.
+const EXPECTED: &str =
+    "names (a letter, then letters, digits and `_`), numbers, and the signs , ! & | ( ) ->";
+
 /// What a word is.
 #[derive(Clone, Copy, Debug, PartialEq, Eq)]
 pub enum Kind {
@@ -82,9 +89,9 @@ pub fn words(line: &str, number: usize, faults: &mut Vec<Fault>) -> Vec<Word> {
             length = found;
             let text = characters[at..at + length].iter().collect();
             words.push(Word { kind, text, place });
-        } else if !first.is_whitespace() {
-            let what = format!("`{}` means nothing in a sheet", first.escape_debug());
-            faults.push(Fault::new(place, what, "names, numbers, and the signs , ! & | ( ) ->"));
+        } else if !first.is_ascii_whitespace() {
+            let what = format!("`{}` means nothing here", first.escape_debug());
+            faults.push(Fault::new(place, what, EXPECTED));
         }
         at += length;
     }

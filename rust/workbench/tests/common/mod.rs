@@ -2,6 +2,7 @@
 
 #![allow(dead_code)]
 
+use std::ffi::OsString;
 use std::path::PathBuf;
 
 use conformance::Random;
@@ -25,7 +26,7 @@ impl Done {
 
 /// Runs a command as `main` does.
 pub fn guard(words: &[&str], input: &[u8]) -> Done {
-    let words: Vec<String> = words.iter().map(|word| word.to_string()).collect();
+    let words: Vec<OsString> = words.iter().map(OsString::from).collect();
     let (mut out, mut err) = (Vec::new(), Vec::new());
     let mut input = input;
     let mut bench = Bench { input: &mut input, out: &mut out, err: &mut err, terminal: false };

@@ -1,0 +1,111 @@
+//! `guard supervisor` against the reference: every state with its names, every input, every output.
+
+mod common;
+
+use common::{guard, hexadecimal, repository};
+use conformance::{cases, generate, seed, Random};
+use guard::{Supervisor, Work};
+use reference::{Kept, Mode, Product, Role, Sheet};
+use workbench::source::Source;
+use workbench::states::States;
+
+fn setting(word: &str, lines: u8, bits: u8) -> String {
+    let stands = |line: u8| match bits >> line & 1 {
+        1 => format!("{word}{line}"),
+        _ => format!("!{word}{line}"),
+    };
+    (0..lines).map(stands).collect::<Vec<_>>().join(" ")
+}
+
+/// A guard's input by made-up names.
+fn input_name(sheet: &Sheet, input: u8) -> String {
+    let site = setting("in", sheet.site_lines, input);
+    let proposal = setting("out", sheet.outputs, input >> sheet.site_lines);
+    match (sheet.mode, sheet.site_lines) {
+        (Mode::Controller, 0) => "any".to_string(),
+        (Mode::Controller, _) => site,
+        (Mode::Shield, 0) => format!("/ {proposal}"),
+        (Mode::Shield, _) => format!("{site} / {proposal}"),
+    }
+}
+
+/// The monitors of a product state by made-up names, then the copies.
+fn monitors(sheet: &Sheet, tuple: &[u8]) -> String {
+    let role = |role| match role {
+        Role::Hard => "hard",
+        Role::Soft => "soft",
+        Role::Limit => "limit",
+    };
+    let count = sheet.monitors.len();
+    let named = sheet.monitors.iter().zip(tuple).enumerate();
+    let named: Vec<String> =
+        named.map(|(j, (monitor, state))| format!("{}{j} s{state}", role(monitor.role))).collect();
+    let copies = sheet.monitors.iter().filter(|monitor| monitor.role == Role::Hard).count();
+    let copies = if sheet.mode == Mode::Shield { copies } else { 0 };
+    let copied: Vec<String> =
+        tuple[count..count + copies].iter().map(|state| format!("s{state}")).collect();
+    let copied =
+        if copies == 0 { String::new() } else { format!("; proposal {}", copied.join(", ")) };
+    if named.is_empty() {
+        String::new()
+    } else {
+        format!(": {}{copied}", named.join(", "))
+    }
+}
+
+/// The whole text.
+fn expected(sheet: &Sheet, product: &Product, kept: &Kept) -> String {
+    let mut text = String::new();
+    let names: Vec<String> = (0..1 << sheet.inputs).map(|input| input_name(sheet, input)).collect();
+    let width = names.iter().map(String::len).max().unwrap();
+    for state in 0..product.count() {
+        let lost = if kept.is_kept(state) { "" } else { ", lost" };
+        text += &format!("state {state}{}{lost}\n", monitors(sheet, product.tuple(state)));
+        for (input, name) in names.iter().enumerate().filter(|_| kept.is_kept(state)) {
+            let allowed = (0..product.output_count())
+                .filter(|&output| kept.allowed(product, state, input, output).is_some())
+                .map(|output| setting("out", sheet.outputs, output as u8));
+            let allowed: Vec<String> = allowed.collect();
+            text += &format!("  {name:width$}  {}\n", allowed.join(", "));
+        }
+    }
+    text
+}
+
+#[test]
+#[cfg_attr(not(guard_library), ignore = "needs the library: rt staticlib hundlezoqa_c")]
+fn supervisors_are_told_whole() {
+    let (mut shields, mut losing) = (0, 0);
+    for case in 0..cases(400) {
+        let mut random = Random::new(seed(), case);
+        let bytes = generate::sheet(&mut random);
+        if reference::supervisor_table(&bytes).is_err() {
+            continue;
+        }
+        let sheet = Sheet::parse(&bytes).expect("accepted");
+        let product = Product::explore(&sheet).expect("accepted");
+        let kept = Kept::by_rounds(&product);
+        let done = guard(&["supervisor", "-"], hexadecimal(&bytes).as_bytes());
+        assert_eq!((done.status, done.err.as_str()), (0, ""), "case {case}");
+        assert_eq!(done.text(), expected(&sheet, &product, &kept), "case {case}");
+        shields += usize::from(sheet.mode == Mode::Shield);
+        losing += usize::from((0..product.count()).any(|state| !kept.is_kept(state)));
+    }
+    assert!(shields > 20 && losing > 20, "{shields} shields, {losing} with lost states");
+}
+
+/// Names are told only of the supervisor that they are of.
+#[test]
+#[cfg_attr(not(guard_library), ignore = "needs the library: rt staticlib hundlezoqa_c")]
+fn another_supervisor_has_no_names() {
+    let source = |name: &str| {
+        let file = repository("sheets").join(name);
+        let bytes = guard(&["compile", file.to_str().expect("letters")], b"").out;
+        Source::of_bytes(name, bytes)
+    };
+    let (a, p4) = (source("A.hex"), source("P4.hex"));
+    let of_a = Supervisor::make(&a.bytes, &mut Work::new()).expect("accepted");
+    let of_p4 = Supervisor::make(&p4.bytes, &mut Work::new()).expect("accepted");
+    assert!(States::of(&a, &of_a).is_some() && States::of(&p4, &of_p4).is_some());
+    assert!(States::of(&a, &of_p4).is_none() && States::of(&p4, &of_a).is_none());
+}
