@@ -66,7 +66,7 @@ unlock() {
 }
 
 # The sums of files, and of all below folders but what cargo builds.
-sums() { (cd "$root" && find "$@" -name target -prune -o -type f -exec cksum {} +) 2>/dev/null; }
+sums() { (cd "$root" && find "$@" -name target -prune -o -type f -exec cksum {} +) 2>/dev/null | LC_ALL=C sort; }
 
 # fresh PRODUCT SOURCE..: whether product and sources are as they were when it was made. Sums tell, not times: a file copied with
 # its time, or one taken away, counts too.
@@ -82,9 +82,10 @@ update() {
     fresh "$@" && return
     made=$root/target/made/${1##*/}
     mkdir -p "$root/target/made" || return 2
-    sources=$(shift && sums "$@")
+    (shift && sums "$@") >"$made.sources" || return 2
     (cd "$root" && $command) </dev/null || return
-    { sums "$1" && printf '%s\n' "$sources"; } >"$made.new" && mv "$made.new" "$made"
+    { sums "$1" && cat "$made.sources"; } | LC_ALL=C sort >"$made.new" && mv "$made.new" "$made"
+    rm -f "$made.sources"
 }
 
 # The folder of the Rattle toolchain, as `kit`: as rt finds it, and where that is not so, as rt says, which takes longer.
@@ -94,6 +95,7 @@ find_kit() {
     kit=${RATTLE_HOME:-${kit%/*/*}}
     [ -f "$kit/KIT-ID" ] || kit=$(rt doc) || stop 2 "rt doc failed"
     [ -d "$kit" ] || kit=${kit%/*/*}
+    [ -f "$kit/KIT-ID" ] || stop 2 "$kit has no KIT-ID: it is no Rattle toolchain"
 }
 
 # How many crates of the repository NAME is made of; crates.txt has the lowest first.
@@ -134,21 +136,30 @@ make_listing() {
     update 'prove check listing' target/bin/listing crates crates.txt "$kit/KIT-ID"
 }
 
-# The static library, proved: `archive`, that of GUARD_STATICLIB if it is set.
+# Where the static library is: in the folder that GUARD_STATICLIB names, if it is set.
+archive=${GUARD_STATICLIB:-target/staticlib}/libhundlezoqa_c.a
+
+# The static library, proved, unless it is another's.
 make_library() {
     if [ -n "${GUARD_STATICLIB:-}" ]; then
-        archive=$GUARD_STATICLIB/libhundlezoqa_c.a
         [ -f "$archive" ] || stop 2 "GUARD_STATICLIB: no $archive"
         return
     fi
-    archive=target/staticlib/libhundlezoqa_c.a
     find_kit
     update 'prove staticlib hundlezoqa_c' "$archive" crates crates.txt "$kit/KIT-ID"
 }
 
-# A package of rust/, built for release.
-cargo_build() {
+# make_program PACKAGE PROGRAM: a program of rust/, built for release.
+make_program() { update "rebuild $1" "rust/target/release/$2" rust "$archive"; }
+
+# Cargo goes by times, and would leave a program as it is that links an older archive: it is made to forget the packages first.
+rebuild() {
     command -v cargo >/dev/null || stop 2 "cargo is not installed"
     say "building $1 (cargo)"
-    cargo build --quiet --release --offline --manifest-path rust/Cargo.toml --target-dir rust/target -p "$1" </dev/null >&2
+    set -- "$1" --quiet --release --offline --manifest-path rust/Cargo.toml --target-dir rust/target
+    package=$1
+    shift
+    # not handed the lock, which a server that cargo starts would keep
+    cargo clean "$@" -p guard -p reference -p tuned -p conformance -p workbench -p bench >&2 9<&- &&
+        cargo build "$@" -p "$package" >&2 9<&-
 }

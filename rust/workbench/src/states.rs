@@ -7,8 +7,15 @@ use guard::sheet::{Mode, Role};
 use guard::{Guard, Supervisor};
 use reference::Product;
 
+use crate::names::MonitorNames;
 use crate::source::Source;
 use crate::text::Named;
+
+/// A monitor and the state it is in, by names.
+pub struct Place<'a> {
+    pub monitor: &'a str,
+    pub state: &'a str,
+}
 
 /// The product states of a sheet, with their names.
 pub struct States {
@@ -27,22 +34,22 @@ impl States {
         Some(States { named: source.named()?, product })
     }
 
-    /// The monitors' states of a product state, in order; then those of the copies that read the
-    /// proposal.
-    pub fn monitors(&self, state: usize) -> (Vec<String>, Vec<String>) {
+    /// The monitors and their states, by names in order, of a product state; then those of the copies
+    /// that read the proposal.
+    pub fn monitors(&self, state: usize) -> (Vec<Place<'_>>, Vec<Place<'_>>) {
         let Named { sheet, names } = &self.named;
-        let tuple = self.product.tuple(state);
+        let copied = |monitor: &&usize| {
+            sheet.mode == Mode::Shield && sheet.monitors[**monitor].role == Role::Hard
+        };
         let all: Vec<usize> = (0..sheet.monitors.len()).collect();
-        let hard = |&&monitor: &&usize| {
-            sheet.mode == Mode::Shield && sheet.monitors[monitor].role == Role::Hard
+        let mut states = self.product.tuple(state).iter();
+        let mut place = |&monitor: &usize| {
+            let MonitorNames { name, states: known } = &names.monitors[monitor];
+            let state = states.next().map_or(0, |&state| usize::from(state));
+            Place { monitor: name, state: &known[state] }
         };
-        let copied: Vec<usize> = all.iter().filter(hard).copied().collect();
-        let mut places = tuple.iter();
-        let mut name = |&monitor: &usize| {
-            let state = places.next().map_or(0, |&state| usize::from(state));
-            names.monitors[monitor].states[state].clone()
-        };
-        (all.iter().map(&mut name).collect(), copied.iter().map(&mut name).collect())
+        let own = all.iter().map(&mut place).collect();
+        (own, all.iter().filter(copied).map(&mut place).collect())
     }
 
     /// The product state of each guard state: the guard's outputs are followed from the start, and

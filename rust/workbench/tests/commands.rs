@@ -171,7 +171,10 @@ fn supervisors_are_told_by_names() {
         "{a}"
     );
     let p7 = guard(&["supervisor", &sheet("P7.hex")], b"").text();
-    assert!(p7.starts_with("state 0: hard0 s0; proposal s0\n  / !out0  !out0, out0\n"), "{p7}");
+    assert!(
+        p7.starts_with("state 0: hard0 s0; proposal hard0 s0\n  / !out0  !out0, out0\n"),
+        "{p7}"
+    );
 }
 
 /// A file is taken for what is in it, and a byte order mark is no part of a text sheet.

@@ -31,25 +31,20 @@ fn input_name(sheet: &Sheet, input: u8) -> String {
 
 /// The monitors of a product state by made-up names, then the copies.
 fn monitors(sheet: &Sheet, tuple: &[u8]) -> String {
-    let role = |role| match role {
-        Role::Hard => "hard",
-        Role::Soft => "soft",
-        Role::Limit => "limit",
+    let name = |j: usize| match sheet.monitors[j].role {
+        Role::Hard => format!("hard{j}"),
+        Role::Soft => format!("soft{j}"),
+        Role::Limit => format!("limit{j}"),
     };
     let count = sheet.monitors.len();
-    let named = sheet.monitors.iter().zip(tuple).enumerate();
-    let named: Vec<String> =
-        named.map(|(j, (monitor, state))| format!("{}{j} s{state}", role(monitor.role))).collect();
-    let copies = sheet.monitors.iter().filter(|monitor| monitor.role == Role::Hard).count();
-    let copies = if sheet.mode == Mode::Shield { copies } else { 0 };
-    let copied: Vec<String> =
-        tuple[count..count + copies].iter().map(|state| format!("s{state}")).collect();
-    let copied =
-        if copies == 0 { String::new() } else { format!("; proposal {}", copied.join(", ")) };
-    if named.is_empty() {
-        String::new()
-    } else {
-        format!(": {}{copied}", named.join(", "))
+    let own: Vec<String> = (0..count).map(|j| format!("{} s{}", name(j), tuple[j])).collect();
+    let hard = (0..count).filter(|&j| sheet.monitors[j].role == Role::Hard);
+    let copies: Vec<String> =
+        hard.zip(&tuple[count..]).map(|(j, state)| format!("{} s{state}", name(j))).collect();
+    match (own.is_empty(), sheet.mode == Mode::Shield && !copies.is_empty()) {
+        (true, _) => String::new(),
+        (_, false) => format!(": {}", own.join(", ")),
+        (_, true) => format!(": {}; proposal {}", own.join(", "), copies.join(", ")),
     }
 }
 

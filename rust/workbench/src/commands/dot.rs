@@ -119,9 +119,9 @@ fn supervisor_edges(supervisor: &Supervisor, states: &States) -> Edges {
 
 /// The monitors' states; copies in brackets.
 fn label(states: &States, state: usize) -> Vec<String> {
-    let (mut monitors, copies) = states.monitors(state);
-    monitors.extend(copies.into_iter().map(|copy| format!("({copy})")));
-    monitors
+    let (monitors, copies) = states.monitors(state);
+    let own = monitors.into_iter().map(|place| place.state.to_string());
+    own.chain(copies.into_iter().map(|place| format!("({})", place.state))).collect()
 }
 
 fn write_graph(graph: &Graph, names: &Names, mode: Mode, bench: &mut Bench) -> Outcome {

@@ -7,7 +7,7 @@ use crate::arguments::Arguments;
 use crate::bench::{Bench, Outcome};
 use crate::making;
 use crate::source::Source;
-use crate::states::States;
+use crate::states::{Place, States};
 
 pub const COMMAND: Command = Command {
     name: "supervisor",
@@ -41,18 +41,15 @@ fn run(arguments: &Arguments, bench: &mut Bench) -> Outcome {
 
 /// The monitors by name, each with its state.
 fn described(states: &States, state: usize) -> String {
+    let told = |places: Vec<Place>| {
+        let each = places.iter().map(|Place { monitor, state }| format!("{monitor} {state}"));
+        each.collect::<Vec<_>>().join(", ")
+    };
     let (monitors, copies) = states.monitors(state);
-    let names = states.named.names.monitors.iter().map(|monitor| monitor.name.as_str());
-    let each: Vec<String> =
-        names.zip(monitors).map(|(monitor, state)| format!("{monitor} {state}")).collect();
-    let mut text = each.join(", ");
-    if !copies.is_empty() {
-        text = format!("{text}; proposal {}", copies.join(", "));
-    }
-    if text.is_empty() {
-        text
-    } else {
-        format!(": {text}")
+    match (monitors.is_empty(), copies.is_empty()) {
+        (true, _) => String::new(),
+        (_, true) => format!(": {}", told(monitors)),
+        _ => format!(": {}; proposal {}", told(monitors), told(copies)),
     }
 }
 
