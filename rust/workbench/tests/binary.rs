@@ -7,6 +7,9 @@ use std::io::{BufRead, BufReader, Write};
 use std::os::unix::ffi::OsStrExt;
 use std::os::unix::fs::{symlink, FileTypeExt, MetadataExt, PermissionsExt};
 use std::process::{Command, Output, Stdio};
+use std::sync::mpsc;
+use std::thread;
+use std::time::Duration;
 
 use common::{repository, Folder};
 
@@ -56,14 +59,16 @@ fn run_answers_at_once() {
         .spawn()
         .expect("the program runs");
     let mut calls = child.stdin.take().expect("piped");
-    let mut answers = BufReader::new(child.stdout.take().expect("piped")).lines();
+    let answers = BufReader::new(child.stdout.take().expect("piped")).lines();
+    let (told, heard) = mpsc::channel();
+    thread::spawn(move || answers.map_while(Result::ok).try_for_each(|answer| told.send(answer)));
     for (call, answer) in [
         ("tray", "open | state 2 | steps 1 | deviations 0"),
         ("!tray", "!open | state 1 | steps 2 | deviations 0"),
         ("unload", "unloaded"),
     ] {
         writeln!(calls, "{call}").expect("taken");
-        assert_eq!(answers.next().expect("an answer").expect("text"), answer);
+        assert_eq!(heard.recv_timeout(Duration::from_secs(20)).as_deref(), Ok(answer));
     }
     drop(calls);
     assert!(child.wait().expect("it ends").success());
