@@ -4,7 +4,7 @@ mod common;
 
 use common::{guard, hexadecimal, repository};
 use conformance::{cases, generate, seed, Random};
-use guard::{Supervisor, Work};
+use guard::{Guard, Supervisor, Work};
 use reference::{Kept, Mode, Product, Role, Sheet};
 use workbench::source::Source;
 use workbench::states::States;
@@ -89,10 +89,10 @@ fn supervisors_are_told_whole() {
     assert!(shields > 20 && losing > 20, "{shields} shields, {losing} with lost states");
 }
 
-/// Names are told only of the supervisor that they are of.
+/// Names are told only of the supervisor and the guard that they are of.
 #[test]
 #[cfg_attr(not(guard_library), ignore = "needs the library: rt staticlib hundlezoqa_c")]
-fn another_supervisor_has_no_names() {
+fn another_sheet_s_tables_have_no_names() {
     let source = |name: &str| {
         let file = repository("sheets").join(name);
         let bytes = guard(&["compile", file.to_str().expect("letters")], b"").out;
@@ -103,4 +103,10 @@ fn another_supervisor_has_no_names() {
     let of_p4 = Supervisor::make(&p4.bytes, &mut Work::new()).expect("accepted");
     assert!(States::of(&a, &of_a).is_some() && States::of(&p4, &of_p4).is_some());
     assert!(States::of(&a, &of_p4).is_none() && States::of(&p4, &of_a).is_none());
+    // Nor has another guard: it would be in two product states at once.
+    let states = States::of(&a, &of_a).expect("its own");
+    let guard_of =
+        |source: &Source| Guard::make(&source.bytes, &mut Work::new()).expect("accepted");
+    assert_eq!(states.of_guard(&guard_of(&a)).map(|states| states.len()), Some(3));
+    assert!(states.of_guard(&guard_of(&p4)).is_none());
 }
