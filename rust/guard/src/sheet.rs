@@ -75,6 +75,9 @@ pub struct Monitor {
 }
 
 impl Monitor {
+    /// The most states.
+    pub const STATES_MOST: usize = 32;
+
     /// The monitor's record.
     pub fn record(&self) -> Vec<u8> {
         let states = u8::try_from(self.accepts.len()).unwrap_or(u8::MAX);
@@ -116,6 +119,22 @@ pub struct Sheet {
     pub prefer: Vec<Literal>,
     /// The monitors in their order.
     pub monitors: Vec<Monitor>,
+}
+
+/// The bounds that the makers hold a sheet to, for those who write one.
+impl Sheet {
+    /// The most lines in.
+    pub const LINES_IN_MOST: usize = 4;
+    /// The most lines out; there is at least one.
+    pub const LINES_OUT_MOST: usize = 3;
+    /// The most input lines of the guard.
+    pub const INPUTS_MOST: usize = 4;
+    /// The most input and output lines of the guard together.
+    pub const LINES_MOST: usize = 6;
+    /// The longest horizon, and the most that input lines times horizon may be.
+    pub const HORIZON_MOST: u8 = 24;
+    /// The most monitors.
+    pub const MONITORS_MOST: usize = 6;
 }
 
 impl Sheet {

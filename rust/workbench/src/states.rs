@@ -12,7 +12,7 @@ use crate::source::Source;
 use crate::text::Named;
 
 /// A monitor and the state it is in, by names.
-pub struct Place<'a> {
+pub struct MonitorState<'a> {
     pub monitor: &'a str,
     pub state: &'a str,
 }
@@ -36,7 +36,7 @@ impl States {
 
     /// The monitors and their states, by names in order, of a product state; then those of the copies
     /// that read the proposal.
-    pub fn monitors(&self, state: usize) -> (Vec<Place<'_>>, Vec<Place<'_>>) {
+    pub fn monitors(&self, state: usize) -> (Vec<MonitorState<'_>>, Vec<MonitorState<'_>>) {
         let Named { sheet, names } = &self.named;
         let copied = |monitor: &&usize| {
             sheet.mode == Mode::Shield && sheet.monitors[**monitor].role == Role::Hard
@@ -46,7 +46,7 @@ impl States {
         let mut place = |&monitor: &usize| {
             let MonitorNames { name, states: known } = &names.monitors[monitor];
             let state = states.next().map_or(0, |&state| usize::from(state));
-            Place { monitor: name, state: &known[state] }
+            MonitorState { monitor: name, state: &known[state] }
         };
         let own = all.iter().map(&mut place).collect();
         (own, all.iter().filter(copied).map(&mut place).collect())

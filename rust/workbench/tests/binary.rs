@@ -11,7 +11,7 @@ use std::sync::mpsc;
 use std::thread;
 use std::time::Duration;
 
-use common::{repository, Folder};
+use common::{sheet, Folder};
 
 fn program(words: &[&str]) -> Command {
     let mut program = Command::new(env!("CARGO_BIN_EXE_workbench"));
@@ -21,10 +21,6 @@ fn program(words: &[&str]) -> Command {
 
 fn run(words: &[&str]) -> Output {
     program(words).stdin(Stdio::null()).output().expect("the program runs")
-}
-
-fn sheet(name: &str) -> String {
-    repository("sheets").join(name).to_str().expect("letters").to_string()
 }
 
 #[test]

@@ -2,12 +2,7 @@
 
 mod common;
 
-use common::{files, guard, repository, Folder};
-
-/// A sheet of the repository, as a word of a command.
-fn sheet(name: &str) -> String {
-    repository("sheets").join(name).to_str().expect("letters").to_string()
-}
+use common::{files, guard, repository, sheet, Folder};
 
 #[test]
 fn help_is_an_answer() {

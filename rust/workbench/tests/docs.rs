@@ -2,7 +2,7 @@
 
 mod common;
 
-use common::{guard, repository};
+use common::{guard, repository, sheet};
 
 /// The worked examples: a heading, and the sheet that it is about.
 const EXAMPLES: [(&str, &str); 3] = [
@@ -51,25 +51,24 @@ fn the_examples_are_as_told() {
     let document = std::fs::read_to_string(repository("docs/SHEETS.md")).expect("there");
     for (heading, name) in EXAMPLES {
         let section = section(&document, heading);
-        let file = repository("sheets").join(format!("{name}.sheet"));
-        let file = file.to_str().expect("letters");
+        let file = sheet(&format!("{name}.sheet"));
         let blocks = blocks(section);
-        let sheet = blocks.iter().find(|block| block.starts_with("mode")).expect("a sheet");
+        let text = blocks.iter().find(|block| block.starts_with("mode")).expect("a sheet");
         let listing = blocks.iter().find(|block| block.starts_with("states")).expect("a listing");
         assert_eq!(
-            guard(&["list", file], b"").text(),
+            guard(&["list", &file], b"").text(),
             format!("{}\n", listing.trim_end()),
             "{name}"
         );
         // A sheet that is shown in part has two points for the rest.
-        if !sheet.contains("..") {
-            let shown = guard(&["compile", "-"], sheet.as_bytes());
-            assert_eq!(shown.out, guard(&["compile", file], b"").out, "{name}: {}", shown.err);
+        if !text.contains("..") {
+            let shown = guard(&["compile", "-"], text.as_bytes());
+            assert_eq!(shown.out, guard(&["compile", &file], b"").out, "{name}: {}", shown.err);
         }
         let taps = taps(section);
         assert!(taps.len() >= 4, "{name}: too few taps");
         let lines: String = taps.iter().map(|(input, ..)| format!("{input}\n")).collect();
-        let answers = guard(&["run", file], lines.as_bytes()).text();
+        let answers = guard(&["run", &file], lines.as_bytes()).text();
         assert_eq!(answers.lines().count(), taps.len(), "{name}");
         for (found, (input, answer, deviations)) in answers.lines().zip(&taps) {
             assert!(found.starts_with(&format!("{answer} |")), "{name}, {input}: {found}");
@@ -81,11 +80,11 @@ fn the_examples_are_as_told() {
 
 /// README's sheet is sheet A, with other comments.
 #[test]
+#[cfg_attr(not(guard_library), ignore = "needs the library: rt staticlib hundlezoqa_c")]
 fn the_readme_s_sheet_is_sheet_a() {
     let document = std::fs::read_to_string(repository("README.md")).expect("there");
     let blocks = blocks(section(&document, "## How to write a sheet"));
-    let sheet = blocks.iter().find(|block| block.starts_with("mode")).expect("a sheet");
-    let file = repository("sheets/A.sheet");
-    let stored = guard(&["compile", file.to_str().expect("letters")], b"").out;
-    assert_eq!(guard(&["compile", "-"], sheet.as_bytes()).out, stored);
+    let text = blocks.iter().find(|block| block.starts_with("mode")).expect("a sheet");
+    let stored = guard(&["compile", &sheet("A.sheet")], b"").out;
+    assert_eq!(guard(&["compile", "-"], text.as_bytes()).out, stored);
 }

@@ -4,7 +4,7 @@ mod common;
 
 use std::collections::{BTreeMap, BTreeSet};
 
-use common::{guard, hexadecimal};
+use common::{guard, hexadecimal, setting};
 use conformance::{cases, generate, seed, Random};
 use reference::{Kept, Mode, Product, Role, Sheet};
 use workbench::text;
@@ -61,21 +61,14 @@ fn inputs(when: &str, sheet: &Sheet) -> BTreeSet<usize> {
     row.iter().enumerate().filter(|(_, &next)| next == 1).map(|(input, _)| input).collect()
 }
 
-fn output_names(sheet: &Sheet, output: u8) -> String {
-    let stands = |line: u8| match output >> line & 1 {
-        1 => format!("out{line}"),
-        _ => format!("!out{line}"),
-    };
-    (0..sheet.outputs).map(stands).collect::<Vec<_>>().join(" ")
-}
-
 /// What must be drawn, by the reference: the guard's edges.
 fn guard_edges(sheet: &Sheet, table: &[u8]) -> BTreeMap<Edge, BTreeSet<usize>> {
     let mut edges: BTreeMap<Edge, BTreeSet<usize>> = BTreeMap::new();
     let rows = table[10..].chunks_exact(4 + (2 << sheet.inputs));
     for (state, row) in rows.enumerate() {
         for (input, entry) in row[4..].chunks_exact(2).enumerate() {
-            let edge = (state, usize::from(entry[1]), output_names(sheet, entry[0]), false);
+            let edge =
+                (state, usize::from(entry[1]), setting("out", sheet.outputs, entry[0]), false);
             edges.entry(edge).or_default().insert(input);
         }
     }
@@ -94,7 +87,7 @@ fn supervisor_edges(
             for output in 0..product.output_count() {
                 let Some(next) = product.edge(state, input, output).next() else { continue };
                 let dashed = kept.allowed(product, state, input, output).is_none();
-                let edge = (state, next, output_names(sheet, output as u8), dashed);
+                let edge = (state, next, setting("out", sheet.outputs, output as u8), dashed);
                 edges.entry(edge).or_default().insert(input);
             }
         }
@@ -182,8 +175,7 @@ fn elements<'a>(picture: &'a str, kind: &str) -> Vec<(&'a str, &'a str)> {
 #[test]
 #[cfg_attr(not(guard_library), ignore = "needs the library: rt staticlib hundlezoqa_c")]
 fn the_picture_of_sheet_a_is_its_graph() {
-    let sheet = common::repository("sheets/A.sheet");
-    let graph = guard(&["dot", sheet.to_str().expect("letters")], b"").text();
+    let graph = guard(&["dot", &common::sheet("A.sheet")], b"").text();
     let picture =
         std::fs::read_to_string(common::repository("docs/pictures/A.svg")).expect("there");
     // An arrow's sign cannot stand in the picture's attributes.

@@ -2,7 +2,7 @@
 
 mod common;
 
-use common::{guard, hexadecimal, Folder};
+use common::{guard, hexadecimal, setting, Folder};
 use conformance::{cases, generate, seed, Random};
 use reference::{loadable, Board, Refusal, TableHead};
 
@@ -38,15 +38,6 @@ fn input_line(random: &mut Random, head: &TableHead, input: u8) -> String {
     }
 }
 
-/// An output by names.
-fn output_names(head: &TableHead, output: u8) -> String {
-    let stands = |line: u8| match output >> line & 1 {
-        1 => format!("out{line}"),
-        _ => format!("!out{line}"),
-    };
-    (0..head.outputs).map(stands).collect::<Vec<_>>().join(" ")
-}
-
 /// A call's answer as it is printed.
 fn told(board: &Board, answer: Result<String, Refusal>) -> String {
     match answer {
@@ -79,7 +70,7 @@ fn script(random: &mut Random, table: &[u8]) -> (String, Vec<String>, bool) {
                 let beyond = random.once_in(10);
                 let input = random.byte_below(if beyond { 2 * most } else { most });
                 let line = input_line(random, &head, input);
-                (line, board.step(table, input).map(|output| output_names(&head, output)))
+                (line, board.step(table, input).map(|output| setting("out", head.outputs, output)))
             }
         };
         refused |= answer.is_err();

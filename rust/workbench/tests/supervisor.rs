@@ -2,20 +2,12 @@
 
 mod common;
 
-use common::{guard, hexadecimal, repository};
+use common::{guard, hexadecimal, setting, sheet};
 use conformance::{cases, generate, seed, Random};
 use guard::{Guard, Supervisor, Work};
 use reference::{Kept, Mode, Product, Role, Sheet};
 use workbench::source::Source;
 use workbench::states::States;
-
-fn setting(word: &str, lines: u8, bits: u8) -> String {
-    let stands = |line: u8| match bits >> line & 1 {
-        1 => format!("{word}{line}"),
-        _ => format!("!{word}{line}"),
-    };
-    (0..lines).map(stands).collect::<Vec<_>>().join(" ")
-}
 
 /// A guard's input by made-up names.
 fn input_name(sheet: &Sheet, input: u8) -> String {
@@ -94,8 +86,7 @@ fn supervisors_are_told_whole() {
 #[cfg_attr(not(guard_library), ignore = "needs the library: rt staticlib hundlezoqa_c")]
 fn another_sheet_s_tables_have_no_names() {
     let source = |name: &str| {
-        let file = repository("sheets").join(name);
-        let bytes = guard(&["compile", file.to_str().expect("letters")], b"").out;
+        let bytes = guard(&["compile", &sheet(name)], b"").out;
         Source::of_bytes(name, bytes)
     };
     let (a, p4) = (source("A.hex"), source("P4.hex"));

@@ -7,7 +7,7 @@ use crate::arguments::Arguments;
 use crate::bench::{Bench, Outcome};
 use crate::making;
 use crate::source::Source;
-use crate::states::{Place, States};
+use crate::states::{MonitorState, States};
 
 pub const COMMAND: Command = Command {
     name: "supervisor",
@@ -41,8 +41,9 @@ fn run(arguments: &Arguments, bench: &mut Bench) -> Outcome {
 
 /// The monitors by name, each with its state.
 fn described(states: &States, state: usize) -> String {
-    let told = |places: Vec<Place>| {
-        let each = places.iter().map(|Place { monitor, state }| format!("{monitor} {state}"));
+    let told = |places: Vec<MonitorState>| {
+        let each =
+            places.iter().map(|MonitorState { monitor, state }| format!("{monitor} {state}"));
         each.collect::<Vec<_>>().join(", ")
     };
     let (monitors, copies) = states.monitors(state);

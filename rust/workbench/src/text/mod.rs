@@ -1,9 +1,9 @@
 //! The text sheet: a sheet in words. docs/SHEETS.md has its grammar.
 
-mod compile;
 mod condition;
 mod cover;
 mod draft;
+mod judge;
 pub mod line;
 mod monitor;
 mod show;
@@ -17,8 +17,8 @@ pub use show::show;
 
 use crate::names::Names;
 use crate::place::{Fault, Place};
-use compile::Findings;
 use draft::Draft;
+use judge::Findings;
 use line::Line;
 
 /// A sheet, and what its parts are called.
@@ -53,7 +53,7 @@ pub fn compile(text: &str) -> Result<(Named, Vec<Fault>), Vec<Fault>> {
         faults.truncate(if spelled { faults.len() } else { 1 });
         found.faults.append(&mut faults);
     }
-    let named = compile::judge(&draft, end, &mut found);
+    let named = judge::judge(&draft, end, &mut found);
     if found.faults.is_empty() {
         return Ok((named, found.warnings));
     }

@@ -2,15 +2,13 @@
 
 use guard::sheet::Monitor;
 
-use super::compile::{judge_distinct, some_of, Findings};
 use super::condition::{all_letters, Letters};
 use super::draft::{DraftMonitor, DraftState, Rule};
+use super::judge::{judge_distinct, some_of, Findings};
 use super::statement::When;
 use super::words::Word;
 use crate::names::setting;
 use crate::place::{Fault, Place};
-
-const STATES_MOST: usize = 32;
 
 /// The monitor and the names of its states; `lines` are those that it reads, where they are known.
 pub fn judge_monitor(
@@ -23,9 +21,13 @@ pub fn judge_monitor(
         let expected = "`state NAME start` and its rules below it";
         found.faults.push(Fault::new(*place, "a monitor without states", expected));
     }
-    if let Some(beyond) = states.get(STATES_MOST) {
+    if let Some(beyond) = states.get(Monitor::STATES_MOST) {
         let what = format!("a monitor of {} states", states.len());
-        found.faults.push(Fault::new(beyond.place, what, format!("at most {STATES_MOST}")));
+        found.faults.push(Fault::new(
+            beyond.place,
+            what,
+            format!("at most {}", Monitor::STATES_MOST),
+        ));
     }
     let words: Vec<Word> = states.iter().filter_map(|state| state.opening.name.clone()).collect();
     judge_distinct(&words, "state", found);
@@ -36,7 +38,7 @@ pub fn judge_monitor(
     // Where a line of a state has a fault, its name may be another.
     let told = !faulty && states.iter().all(|state| !state.opening.faulty);
     let mut rows = Vec::new();
-    for state in states.iter().take(STATES_MOST + 1) {
+    for state in states.iter().take(Monitor::STATES_MOST + 1) {
         if told {
             judge_targets(state, &names, found);
         }

@@ -1,14 +1,11 @@
 //! The statements of a text sheet: one a line.
 
-use guard::sheet::{Mode, Role};
+use guard::sheet::{Mode, Role, Sheet};
 
 use super::condition::Condition;
 use super::line::Line;
 use super::words::{Word, HEAD, STATEMENTS};
 use crate::place::{Fault, Place};
-
-/// The longest horizon.
-pub const HORIZON_MOST: u8 = 24;
 
 /// A statement of the head.
 #[derive(Clone, Debug, PartialEq, Eq)]
@@ -181,7 +178,7 @@ fn read_head(line: &mut Line, keyword: &str) -> Result<Statement, Fault> {
         "in" => Head::In(read_list(line, |line| line.name("the name of a line in"))?),
         "out" => Head::Out(read_list(line, |line| line.name("the name of a line out"))?),
         "horizon" => {
-            let (horizon, place) = line.number("the horizon", 0, HORIZON_MOST)?;
+            let (horizon, place) = line.number("the horizon", 0, Sheet::HORIZON_MOST)?;
             Head::Horizon(horizon, place)
         }
         "match" => Head::Match(line.number("the match weight", 0, 255)?.0),

@@ -80,6 +80,20 @@ impl Drop for Folder {
     }
 }
 
+/// A sheet of the repository, as a word of a command.
+pub fn sheet(name: &str) -> String {
+    repository("sheets").join(name).to_str().expect("a name in letters").to_string()
+}
+
+/// How lines with made-up names stand, bit j for line j: `in0 !in1`.
+pub fn setting(word: &str, lines: u8, bits: u8) -> String {
+    let stands = |line: u8| match bits >> line & 1 {
+        1 => format!("{word}{line}"),
+        _ => format!("!{word}{line}"),
+    };
+    (0..lines).map(stands).collect::<Vec<_>>().join(" ")
+}
+
 /// Bytes as hexadecimal text.
 pub fn hexadecimal(bytes: &[u8]) -> String {
     bytes.iter().map(|byte| format!("{byte:02x} ")).collect()

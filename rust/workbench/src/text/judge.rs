@@ -6,17 +6,10 @@ use guard::sheet::{Literal, Mode, Role, Sheet};
 
 use super::draft::{Draft, DraftMonitor};
 use super::monitor::judge_monitor;
-use super::statement::HORIZON_MOST;
 use super::words::Word;
 use super::Named;
 use crate::names::{MonitorNames, Names};
 use crate::place::{Fault, Place};
-
-const LINES_IN_MOST: usize = 4;
-const LINES_OUT_MOST: usize = 3;
-const INPUTS_MOST: usize = 4;
-const LINES_MOST: usize = 6;
-const MONITORS_MOST: usize = 6;
 
 /// What judging a draft comes to besides the sheet.
 #[derive(Default)]
@@ -30,8 +23,8 @@ pub struct Findings {
 /// The sheet that the draft is, as far as it can be told; it stands only where there is no fault.
 pub fn judge(draft: &Draft, end: Place, found: &mut Findings) -> Named {
     judge_missing(draft, end, found);
-    let lines_in = judge_lines(draft.lines_in.as_ref(), LINES_IN_MOST, "in", found);
-    let lines_out = judge_lines(draft.lines_out.as_ref(), LINES_OUT_MOST, "out", found);
+    let lines_in = judge_lines(draft.lines_in.as_ref(), Sheet::LINES_IN_MOST, "in", found);
+    let lines_out = judge_lines(draft.lines_out.as_ref(), Sheet::LINES_OUT_MOST, "out", found);
     judge_distinct(&[&lines_in[..], &lines_out[..]].concat(), "line", found);
     let texts = |words: &[Word]| words.iter().map(|word| word.text.clone()).collect::<Vec<_>>();
     let mode = draft.mode.map_or(Mode::Controller, |(mode, _)| mode);
@@ -124,28 +117,25 @@ fn judge_size(draft: &Draft, sheet: &Sheet, found: &mut Findings) -> bool {
         Mode::Controller => "",
         Mode::Shield => ", since a shield reads a proposal for each line out",
     };
-    if inputs > INPUTS_MOST {
+    if inputs > Sheet::INPUTS_MOST {
         let what = format!("the guard has {inputs} inputs{of}");
-        found.faults.push(Fault::new(place, what, format!("at most {INPUTS_MOST}")));
-    } else if inputs + outputs > LINES_MOST {
+        found.faults.push(Fault::new(place, what, format!("at most {}", Sheet::INPUTS_MOST)));
+    } else if inputs + outputs > Sheet::LINES_MOST {
         let what = format!("the guard has {inputs} inputs{of}, and {outputs} outputs");
-        let expected = format!("at most {LINES_MOST} together");
+        let expected = format!("at most {} together", Sheet::LINES_MOST);
         found.faults.push(Fault::new(place, what, expected));
     }
-    inputs <= INPUTS_MOST && inputs + outputs <= LINES_MOST
+    inputs <= Sheet::INPUTS_MOST && inputs + outputs <= Sheet::LINES_MOST
 }
 
 fn judge_horizon(draft: &Draft, sheet: &Sheet, found: &mut Findings) -> u8 {
+    const MOST: u8 = Sheet::HORIZON_MOST;
     let Some((horizon, place)) = draft.horizon else { return 0 };
     let inputs = sheet.inputs();
-    if u16::from(inputs) * u16::from(horizon) > u16::from(HORIZON_MOST) {
+    if u16::from(inputs) * u16::from(horizon) > u16::from(MOST) {
         let what = format!("the horizon is {horizon}, of a guard with {inputs} inputs");
-        let most = HORIZON_MOST / inputs;
-        found.faults.push(Fault::new(
-            place,
-            what,
-            format!("at most {most}: inputs times horizon is at most {HORIZON_MOST}"),
-        ));
+        let expected = format!("at most {}: inputs times horizon is at most {MOST}", MOST / inputs);
+        found.faults.push(Fault::new(place, what, expected));
     }
     horizon
 }
@@ -164,7 +154,7 @@ fn judge_order(draft: &Draft, found: &mut Findings) -> Vec<Literal> {
     let (Some((order, place)), Some((lines_out, _))) = (&draft.prefer, &draft.lines_out) else {
         return Vec::new();
     };
-    if lines_out.len() > LINES_OUT_MOST {
+    if lines_out.len() > Sheet::LINES_OUT_MOST {
         return Vec::new();
     }
     let lines_out: Vec<&str> = lines_out.iter().map(|word| word.text.as_str()).collect();
@@ -196,11 +186,16 @@ fn judge_monitors(draft: &Draft, readable: bool, named: &mut Named, found: &mut 
     let openings: Vec<Word> =
         draft.monitors.iter().filter_map(|monitor| monitor.opening.name.clone()).collect();
     judge_distinct(&openings, "monitor", found);
-    for (number, draft_monitor) in draft.monitors.iter().enumerate().take(MONITORS_MOST + 1) {
+    for (number, draft_monitor) in draft.monitors.iter().enumerate().take(Sheet::MONITORS_MOST + 1)
+    {
         let DraftMonitor { opening, place, .. } = draft_monitor;
-        if number == MONITORS_MOST {
+        if number == Sheet::MONITORS_MOST {
             let what = "a seventh monitor";
-            found.faults.push(Fault::new(*place, what, format!("at most {MONITORS_MOST}")));
+            found.faults.push(Fault::new(
+                *place,
+                what,
+                format!("at most {}", Sheet::MONITORS_MOST),
+            ));
         }
         if opening.role == Role::Limit && matches!(draft.mode, Some((Mode::Controller, _))) {
             let what = "a deviation limit for a controller, which reads no proposal";
