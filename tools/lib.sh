@@ -156,9 +156,8 @@ make_program() { update "rebuild $1" "rust/target/release/$2" rust "$archive"; }
 rebuild() {
     command -v cargo >/dev/null || stop 2 "cargo is not installed"
     say "building $1 (cargo)"
-    set -- "$1" --quiet --release --offline --manifest-path rust/Cargo.toml --target-dir rust/target
     package=$1
-    shift
+    set -- --quiet --release --offline --manifest-path rust/Cargo.toml --target-dir rust/target
     # not handed the lock, which a server that cargo starts would keep
     cargo clean "$@" -p guard -p reference -p tuned -p conformance -p workbench -p bench >&2 9<&- &&
         cargo build "$@" -p "$package" >&2 9<&-
