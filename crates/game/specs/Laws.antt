@@ -11,6 +11,8 @@ pub mod Numbering
 pub mod Naming
 pub mod Rounds
 pub mod Value
+pub mod Extreme
+pub mod Ways
 pub mod Choice
 pub mod Answers
 pub mod Simulation

@@ -6,6 +6,7 @@ pub mod Survival
 pub mod History
 pub mod Supervisor
 pub mod Plans
+pub mod Ways
 pub mod FirstMet
 pub mod Reachable
 pub mod Book

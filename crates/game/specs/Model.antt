@@ -4,5 +4,6 @@ pub mod Letters
 pub mod Numbering
 pub mod Rounds
 pub mod Value
+pub mod Extreme
 pub mod Choice
 pub mod Machine
