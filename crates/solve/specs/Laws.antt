@@ -4,3 +4,4 @@ pub mod Entries
 pub mod StateGrounds
 pub mod Solving
 pub mod Judging
+pub mod Opening

@@ -1,3 +1,4 @@
 -- What the public calls promise.
 pub mod Making
+pub mod Opening
 pub mod OpeningWork
