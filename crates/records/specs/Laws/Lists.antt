@@ -49,38 +49,40 @@ tab-suc {A} (suc n) f = ap (λ (l : List A). f 0 ∷ l) (tab-suc n (λ k. f (suc
 pub tab-snoc {ℓ} : {A : Type ℓ} (n : ℕ) (f : ℕ → A) → tab (n + 1) f ≡ tab n f ++ (f n ∷ [])
 tab-snoc n f = rw add-one (tab-suc n f)
 
-pub put-none : (d : List ℕ) (f : ℕ → ℕ) → put d 0 f ≡ d
+pub put-none {ℓ} : {A : Type ℓ} (d : List A) (f : ℕ → A) → put d 0 f ≡ d
 unfolding put
 put-none [] f = refl
 put-none (x ∷ d) f = refl
 
-put-suc : (d : List ℕ) (i : ℕ) (f : ℕ → ℕ) → set (put d i f) i (f i) ≡ put d (suc i) f
+put-suc {ℓ} : {A : Type ℓ} (d : List A) (i : ℕ) (f : ℕ → A) → set (put d i f) i (f i) ≡ put d (suc i) f
 unfolding put
-put-suc [] i f = refl
-put-suc (x ∷ d) zero f = ap (λ (t : List ℕ). f 0 ∷ t) (sym (put-none d (λ k. f (suc k))))
-put-suc (x ∷ d) (suc i) f = ap (λ (t : List ℕ). f 0 ∷ t) (put-suc d i (λ k. f (suc k)))
+put-suc {A} [] i f = refl
+put-suc {A} (x ∷ d) zero f = ap (λ (t : List A). f 0 ∷ t) (sym (put-none d (λ k. f (suc k))))
+put-suc {A} (x ∷ d) (suc i) f = ap (λ (t : List A). f 0 ∷ t) (put-suc d i (λ k. f (suc k)))
 
-pub put-more : (d : List ℕ) (i : ℕ) (f : ℕ → ℕ) → set (put d i f) i (f i) ≡ put d (i + 1) f
+pub put-more {ℓ} : {A : Type ℓ} (d : List A) (i : ℕ) (f : ℕ → A) → set (put d i f) i (f i) ≡ put d (i + 1) f
 put-more d i f = rw add-one (put-suc d i f)
 
 -- one more element of a front
-pub put-next : (d : List ℕ) (i : ℕ) (f : ℕ → ℕ) {now : List ℕ} {x : ℕ} → now ≡ put d i f → x ≡ f i → set now i x ≡ put d (i + 1) f
-put-next d i f e g = rw (e, g) (put-more d i f)
+pub put-next {ℓ} : {A : Type ℓ} (d : List A) (i : ℕ) (f : ℕ → A) {now : List A} {x : A} → now ≡ put d i f → x ≡ f i
+    → set now i x ≡ put d (i + 1) f
+put-next {A} d i f e g = ap₂ (λ (l : List A) (y : A). set l i y) e g ∙ put-more d i f
 
-pub length-put : (d : List ℕ) (n : ℕ) (f : ℕ → ℕ) → length (put d n f) ≡ length d
+pub length-put {ℓ} : {A : Type ℓ} (d : List A) (n : ℕ) (f : ℕ → A) → length (put d n f) ≡ length d
 unfolding put
 length-put [] n f = refl
 length-put (x ∷ d) zero f = refl
 length-put (x ∷ d) (suc n) f = ap suc (length-put d n (λ k. f (suc k)))
 
-pub getD-put-rest : (d : List ℕ) (n : ℕ) (f : ℕ → ℕ) (k e : ℕ) → n ≤ k → getD (put d n f) k e ≡ getD d k e
+pub getD-put-rest {ℓ} : {A : Type ℓ} (d : List A) (n : ℕ) (f : ℕ → A) (k : ℕ) (e : A) → n ≤ k → getD (put d n f) k e ≡ getD d k e
 unfolding put
 getD-put-rest [] n f k e l = refl
 getD-put-rest (x ∷ d) zero f k e l = refl
 getD-put-rest (x ∷ d) (suc n) f zero e l = absurd (not-suc-le-zero l)
 getD-put-rest (x ∷ d) (suc n) f (suc k) e l = getD-put-rest d n (λ j. f (suc j)) k e (le-of-suc-le-suc l)
 
-pub getD-put-front : (d : List ℕ) (n : ℕ) (f : ℕ → ℕ) (k e : ℕ) → k < n → k < length d → getD (put d n f) k e ≡ f k
+pub getD-put-front {ℓ} : {A : Type ℓ} (d : List A) (n : ℕ) (f : ℕ → A) (k : ℕ) (e : A) → k < n → k < length d
+    → getD (put d n f) k e ≡ f k
 unfolding put
 getD-put-front [] n f k e l m = absurd (not-suc-le-zero m)
 getD-put-front (x ∷ d) zero f k e l m = absurd (not-suc-le-zero l)

@@ -8,7 +8,7 @@ use Rattle.records.specs.Meaning.Lists.{tab}
 -- ---- a list with its front replaced: what a loop that stores at 0, 1, .. has made of it
 
 -- d with f k put at each k below n
-unfoldable pub put : List ℕ → ℕ → (ℕ → ℕ) → List ℕ
+unfoldable pub put {ℓ} : {A : Type ℓ} → List A → ℕ → (ℕ → A) → List A
 put [] n f = []
 put (x ∷ d) zero f = x ∷ d
 put (x ∷ d) (suc n) f = f 0 ∷ put d n (λ k. f (suc k))
