@@ -58,13 +58,13 @@ module _
   where
     module _ (k i o : ℕ) (state : k < n) (input : i < g .ins) (output : o < g .outs) where
       -- the same may be given
-      may-agree : mayGive g k i o ≡ mayGive (held g cells dropped gains bonuses) k i o
+      pub may-agree : mayGive g k i o ≡ mayGive (held g cells dropped gains bonuses) k i o
       unfolding mayGive
       may-agree =
           leads-agree steps cells (holds .cells-are) (g .dropped) dropped (holds .dropped-are) _ (cell-in steps state input output)
 
       -- a step leads to the same state
-      next-agree : cellNext g k i o ≡ cellNext (held g cells dropped gains bonuses) k i o
+      pub next-agree : cellNext g k i o ≡ cellNext (held g cells dropped gains bonuses) k i o
       unfolding cellNext
       next-agree = holds .cells-are _ (cell-in steps state input output)
 
@@ -75,18 +75,22 @@ module _
           steps .inside _ (cell-in steps state input output)
           (not-true _ (and-left (not (isBroken (getD (g .cells) (cellAt (g .ins) (g .outs) k i o) 0))) _ e))
 
-      -- and has the same score
+      -- and earns the same
+      pub earns-agree : mayGive g k i o ≡ true → earns g k i o ≡ earns (held g cells dropped gains bonuses) k i o
+      unfolding earns
+      earns-agree e =
+          rw (← next-agree)
+          (ap₂ _+_ (holds .gains-are (cellNext g k i o) (next-among e))
+          (holds .bonuses-are (i + g .ins * o) (letter-low (g .ins) (g .outs) i o input output)))
+
+      -- so it has the same score
       score-agree : (values others : List ℕ) → ((q : ℕ) → q < n → getD values q 0 ≡ getD others q 0) → (factor : ℕ)
           → mayGive g k i o ≡ true
           → scoreOf g values factor k i o ≡ scoreOf (held g cells dropped gains bonuses) others factor k i o
-      unfolding scoreOf earns
+      unfolding scoreOf
       score-agree values others same factor e =
-          let low : cellNext g k i o < n = next-among e in
-          rw (← next-agree)
-          (ap₂ (λ (x y : ℕ). x * factor + y)
-          (ap₂ _+_ (holds .gains-are (cellNext g k i o) low)
-          (holds .bonuses-are (i + g .ins * o) (letter-low (g .ins) (g .outs) i o input output)))
-          (same (cellNext g k i o) low))
+          ap₂ (λ (x y : ℕ). x * factor + y) (earns-agree e)
+          (same (cellNext g k i o) (next-among e) ∙ ap (λ (q : ℕ). getD others q 0) next-agree)
 
     module _ (values others : List ℕ) (same : (q : ℕ) → q < n → getD values q 0 ≡ getD others q 0) (factor : ℕ) where
       worth-agree : (k : ℕ) → k < n → worth g values factor k ≡ worth (held g cells dropped gains bonuses) others factor k

@@ -1,0 +1,3 @@
+-- Definitions that go the way the code goes.
+pub mod Forecast
+pub mod Forecasting

@@ -1,0 +1,3 @@
+// The forecast card of a sheet: what each product state can still earn, at best and at least.
+pub mod make;
+pub mod making;
