@@ -28,6 +28,12 @@ use Rattle.outlook.specs.declared.sums.Sums.{Sums}
 
 -- ---- over outputs
 
+-- an offer tells whether the output may be given
+allowed-is : (g : Game) (bests : List ℕ) (factor k i o : ℕ) {offer : Offer} → offer ≡ offerOf g bests factor k i o
+    → {b : Bool} → offer .allowed ≡ b → mayGive g k i o ≡ b
+unfolding offerOf
+allowed-is g bests factor k i o e allowed = rw e at allowed
+
 -- what reading the cell of an output that may be given asks, and the score of its step
 pub record Lands (g : Game) (leasts : List ℕ) (factor k i o : ℕ) : Type 0 where
   pub row : InRow (g .ins) (g .outs) k i o
@@ -36,9 +42,11 @@ pub record Lands (g : Game) (leasts : List ℕ) (factor k i o : ℕ) : Type 0 wh
   pub scored : (to : ℕ) → to ≡ cellNext g k i o → Scored (g .bonuses) leasts factor to (i + g .ins * o)
 
 module _ {g : Game} {leasts : List ℕ} {factor k : ℕ} (ready : Ready g leasts factor k) {i o : ℕ} (hi : i < g .ins) (ho : o < g .outs) where
-  pub lands : length (g .cells) ≤ maxIndex → mayGive g k i o ≡ true → Lands g leasts factor k i o
-  lands size may =
+  pub lands : length (g .cells) ≤ maxIndex → (bests : List ℕ) {offer : Offer} → offer ≡ offerOf g bests factor k i o → offer .allowed ≡ true
+      → Lands g leasts factor k i o
+  lands size bests e allowed =
       let s = ready .sized in
+      let may : mayGive g k i o ≡ true = allowed-is g bests factor k i o e allowed in
       record {
         row = in-row (steps-of s) size (ready .state) hi ho;
         cell = omega (arith, cell-in (steps-of s) (ready .state) hi ho, s .rows);
@@ -63,17 +71,13 @@ module _ (g : Game) (bests leasts : List ℕ) (factor k i : ℕ) where
   span-begin e = e
 
   module _ (o : ℕ) {offer : Offer} (e : offer ≡ offerOf g bests factor k i o) where
-    allowed-is : {b : Bool} → offer .allowed ≡ b → mayGive g k i o ≡ b
-    unfolding offerOf
-    allowed-is may = rw e at may
-
     -- with an output that may be given
     pub span-more : {span span' : Span} {least to : ℕ} → g .gains ≡ [] → offer .allowed ≡ true → span ≡ before o
         → to ≡ cellNext g k i o → least ≡ scoreIn (g .bonuses) leasts factor to (i + g .ins * o)
         → span' ≡ widened span (offer .score) least → span' ≡ before (o + 1)
     unfolding offerOf spanBefore widened
     span-more {least = least} none allowed b t l w =
-        let may : mayGive g k i o ≡ true = allowed-is allowed in
+        let may : mayGive g k i o ≡ true = allowed-is g bests factor k i o e allowed in
         let score : least ≡ scoreOf g leasts factor k i o = l ∙ rw t (score-read g none leasts factor k i o) in
         w ∙ rw (b, e, score, top-more, bottom-more, any-with o (mayGive g k i) may, may)
 
@@ -81,7 +85,7 @@ module _ (g : Game) (bests leasts : List ℕ) (factor k i : ℕ) where
     pub span-same : {span span' : Span} → offer .allowed ≡ false → span ≡ before o → span' ≡ span → span' ≡ before (o + 1)
     unfolding offerOf spanBefore
     span-same shut b w =
-        let may : mayGive g k i o ≡ false = allowed-is shut in w ∙ b ∙ rw (top-more, bottom-more, any-without o (mayGive g k i) may, may)
+        let may : mayGive g k i o ≡ false = allowed-is g bests factor k i o e shut in w ∙ b ∙ rw (top-more, bottom-more, any-without o (mayGive g k i) may, may)
 
   pub span-end : (o : ℕ) {span : Span} → o ≡ g .outs → span ≡ before o → span ≡ spanOf g bests leasts factor k i
   unfolding spanOf
