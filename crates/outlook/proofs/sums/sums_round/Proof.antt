@@ -1,62 +1,77 @@
+-- `outlook::sums::sums_round`: the entries of the states before k in both rows. Assumes nothing.
+use mathlib.Core.Path.{_≡_, ap, sym, _∙_}
+use Prim.Native.Nat.{_-_, _≤_}
+use native.Mathlib.Omega.{arith}
+use borrow.Author.Needs.{needs}
+use Rattle.records.specs.Model.Bounded.{top}
+use Rattle.records.specs.Model.Lists.{put}
+use Rattle.records.specs.Laws.Lists.{put-none, put-next, length-put}
+use Rattle.game.specs.Model.Extreme.{bottom}
+use Rattle.values.specs.Model.Arrivals.{arrivalGame}
+use Rattle.outlook.specs.Model.Outlook.{worthBy}
+use Rattle.outlook.specs.Model.Spans.{sumsOf}
+use Rattle.outlook.specs.declared.sums.Sums.{Sums}
 use Rattle.outlook.proofs.sums.sums_round.Statement.{statement}
 use Rattle.outlook.proofs.sums.sums_round.Tie as tie
-use Rattle.outlook.proofs.sums.sums_round.Reads as reads
-use Rattle.outlook.proofs.sums.sums_round.Lts as lts
-use Rattle.outlook.proofs.sums.sums_of.Reads as sums-of-reads
 
 abbrev Inv-loop : tie.InvT-loop
-Inv-loop cells dropped bonuses ins outs n highs lows bests₀ leasts₀ factor k₀ bests leasts k = ?
+Inv-loop cells dropped bonuses ins outs n highs lows bests₀ leasts₀ factor k₀ bests leasts k =
+    let g = arrivalGame cells dropped bonuses ins outs in
+    (k ≤ n) × (bests ≡ put bests₀ k (worthBy top g highs factor)) × (leasts ≡ put leasts₀ k (worthBy bottom g lows factor))
 
 abbrev μ-loop : tie.MeasureT-loop
-μ-loop cells dropped bonuses ins outs n highs lows bests₀ leasts₀ factor k₀ bests leasts k = ?
+μ-loop cells dropped bonuses ins outs n highs lows bests₀ leasts₀ factor k₀ bests leasts k = n - k
 
--- src/sums.rt:94:5
+-- the places that the needs look back to
+abbrev entry : tie.At-loop Inv-loop μ-loop → tie.Start Inv-loop μ-loop
+entry c = c .before .before .before .before .before .before .before .before
+
+abbrev turn : tie.After-sums-of Inv-loop μ-loop → tie.At-loop Inv-loop μ-loop
+turn c = c .before .before
+
 loop-holds : tie.Need-loop-holds Inv-loop μ-loop
-loop-holds c = ?
+loop-holds c = (omega arith, sym (put-none _ _), sym (put-none _ _))
 
--- src/sums.rt:95:13
 sums-of-requires : tie.Need-sums-of-requires Inv-loop μ-loop
-sums-of-requires c κs = ?
+sums-of-requires c κs = let r = entry (c .before) .pre in
+    let state = c .loop-test .taken in (
+      record { states = _; sized = r .0; valued = r .1 .0; state = state },
+      record { states = _; sized = r .0; valued = r .1 .1 .0; state = state },
+    )
 
--- src/sums.rt:106:9
 mul-bests : tie.Need-mul-bests Inv-loop μ-loop
-mul-bests c = ?
+mul-bests c = search needs
 
--- src/sums.rt:106:9
 slice-write-bests : tie.Need-slice-write-bests Inv-loop μ-loop
-slice-write-bests c = ?
+slice-write-bests c = rw (turn c .loop .inv .1, length-put) (omega (arith, entry (turn c) .pre .1 .1 .1 .0))
 
--- src/sums.rt:107:9
 mul-leasts : tie.Need-mul-leasts Inv-loop μ-loop
-mul-leasts c = ?
+mul-leasts c = search needs
 
--- src/sums.rt:107:9
 slice-write-leasts : tie.Need-slice-write-leasts Inv-loop μ-loop
-slice-write-leasts c = ?
+slice-write-leasts c = rw (turn c .loop .inv .2, length-put) (omega (arith, entry (turn c) .pre .1 .1 .1 .1))
 
--- src/sums.rt:108:9
 add-k : tie.Need-add-k Inv-loop μ-loop
-add-k c = ?
+add-k c = omega arith
 
--- src/sums.rt:94:5
 loop-less : tie.Need-loop-less Inv-loop μ-loop
-loop-less c = ?
+loop-less c = omega arith
 
--- src/sums.rt:94:5
 loop-again : tie.Need-loop-again Inv-loop μ-loop
-loop-again c = ?
+unfolding sumsOf
+loop-again c = let e = c .sums-of .ensures in
+    let r = turn c .loop .inv in
+    (omega arith, put-next _ _ _ (r .1) (ap (λ (s : Sums). s .best) e), put-next _ _ _ (r .2) (ap (λ (s : Sums). s .least) e))
 
--- src/sums.rt:67:1
 same-length : tie.Need-same-length Inv-loop μ-loop
-same-length c = ?
+same-length c = rw (c .before .loop .inv .1, length-put)
 
--- src/sums.rt:67:1
 same-length-2 : tie.Need-same-length-2 Inv-loop μ-loop
-same-length-2 c = ?
+same-length-2 c = rw (c .before .loop .inv .2, length-put)
 
--- src/sums.rt:67:1
 returns : tie.Need-returns Inv-loop μ-loop
-returns c = ?
+returns c = let h = c .before in
+    let e : h .loop .k ≡ entry h .args .n = omega arith in (h .loop .inv .1 ∙ rw e, h .loop .inv .2 ∙ rw e)
 
 pub sums-round-spec : {M : Type 1} → statement M
 sums-round-spec =
