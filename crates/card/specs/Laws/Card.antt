@@ -1,6 +1,6 @@
 -- What stands on a card: the entries of its states, and lost past them.
 -- Assumes nothing.
-use mathlib.Core.Path.{_≡_, refl, _∙_}
+use mathlib.Core.Path.{_≡_, refl, ap, _∙_}
 use mathlib.Core.Bool.{true, false, cond}
 use mathlib.Core.List.{List}
 use mathlib.Core.Option.{none, some}
@@ -9,11 +9,14 @@ use native.Mathlib.Omega.{arith}
 use lib.Dec.{eqb}
 use lib.ListN.{length, getD, replicate, length-replicate}
 use Rattle.records.specs.Meaning.Limits.{maxStates}
+use Rattle.records.specs.Model.Lists.{put}
 use Rattle.records.specs.Laws.Tests.{by-test}
-use Rattle.records.specs.Laws.Lists.{length-put, getD-put-front, getD-put-rest}
+use Rattle.records.specs.Laws.Lists.{length-put, put-ext, getD-put-front, getD-put-rest}
 use Rattle.card.specs.Meaning.Card.{averagesIn, lostEntry}
 use Rattle.card.specs.Model.Card.{averagesOf, entryOf, entryAt, lostEntries, lostCard, cardOf}
 use Rattle.card.specs.declared.Prospect.the-variants.{Worth}
+use Rattle.card.specs.declared.Entry.{Entry}
+use Rattle.card.specs.declared.Card.{Card}
 
 -- ---- an entry
 
@@ -71,3 +74,12 @@ module _ (dropped bests leasts : List ℕ) (words n : ℕ) where
   pub card-past : (s : ℕ) → n ≤ s → getD (cardOf dropped bests leasts words n .entries) s lostEntry ≡ lostEntry
   unfolding cardOf
   card-past s h = getD-put-rest lostEntries n (entryAt dropped bests leasts words) s lostEntry h ∙ lost-entry s
+
+-- cards of as many states with the same entries are the same
+pub card-ext : (dropped bests leasts : List ℕ) (words n : ℕ) (dropped′ bests′ leasts′ : List ℕ) (words′ n′ : ℕ) → n ≡ n′
+    → ((s : ℕ) → s < n → entryAt dropped bests leasts words s ≡ entryAt dropped′ bests′ leasts′ words′ s)
+    → cardOf dropped bests leasts words n ≡ cardOf dropped′ bests′ leasts′ words′ n′
+unfolding cardOf
+card-ext dropped bests leasts words n dropped′ bests′ leasts′ words′ n′ e same =
+    ap {B = Card} (λ (l : List Entry). record { count = n; entries = l }) (put-ext lostEntries n _ _ same)
+    ∙ ap {B = Card} (λ (m : ℕ). record { count = m; entries = put lostEntries m (entryAt dropped′ bests′ leasts′ words′) }) e

@@ -42,7 +42,7 @@ use Rattle.plan.specs.Laws.SamePlan.{Stored, SameGuard, choicesBy}
 -- ---- numbers that the code relies on
 
 -- a power of a power
-pow-pow : (m a h : ℕ) → (m ^ a) ^ h ≡ m ^ (a * h)
+pub pow-pow : (m a h : ℕ) → (m ^ a) ^ h ≡ m ^ (a * h)
 pow-pow m a zero = rw (mul-zero a, pow-zero (m ^ a), pow-zero m)
 pow-pow m a (suc h) =
     pow-suc (m ^ a) h ∙ ap (λ (x : ℕ). x * m ^ a) (pow-pow m a h) ∙ sym (pow-add m (a * h) a) ∙ ap (λ (x : ℕ). m ^ x) (sym (mul-suc a h))

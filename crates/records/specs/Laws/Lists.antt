@@ -104,19 +104,19 @@ put-self (x ∷ d) zero = refl
 put-self (x ∷ d) (suc n) = ap (λ (t : List ℕ). x ∷ t) (put-self d n)
 
 -- what is put twice is what was put last
-pub put-put : (d : List ℕ) (n : ℕ) (f g : ℕ → ℕ) → put (put d n f) n g ≡ put d n g
+pub put-put {ℓ} : {A : Type ℓ} (d : List A) (n : ℕ) (f g : ℕ → A) → put (put d n f) n g ≡ put d n g
 unfolding put
 put-put [] n f g = refl
 put-put (x ∷ d) zero f g = refl
-put-put (x ∷ d) (suc n) f g = ap (λ (t : List ℕ). g 0 ∷ t) (put-put d n (λ k. f (suc k)) (λ k. g (suc k)))
+put-put {A} (x ∷ d) (suc n) f g = ap (λ (t : List A). g 0 ∷ t) (put-put d n (λ k. f (suc k)) (λ k. g (suc k)))
 
 -- only what f says below n counts
-pub put-ext : (d : List ℕ) (n : ℕ) (f g : ℕ → ℕ) → ((k : ℕ) → k < n → f k ≡ g k) → put d n f ≡ put d n g
+pub put-ext {ℓ} : {A : Type ℓ} (d : List A) (n : ℕ) (f g : ℕ → A) → ((k : ℕ) → k < n → f k ≡ g k) → put d n f ≡ put d n g
 unfolding put
 put-ext [] n f g h = refl
 put-ext (x ∷ d) zero f g h = refl
-put-ext (x ∷ d) (suc n) f g h =
-    ap₂ (λ (a : ℕ) (t : List ℕ). a ∷ t) (h 0 (omega arith))
+put-ext {A} (x ∷ d) (suc n) f g h =
+    ap₂ (λ (a : A) (t : List A). a ∷ t) (h 0 (omega arith))
     (put-ext d n (λ k. f (suc k)) (λ k. g (suc k)) (λ k l. h (suc k) (suc-le-suc l)))
 
 -- a front that is the whole list
