@@ -1,18 +1,20 @@
--- An average of a sum up to 2 ^ 53 is the quotient of two casts; over 2 ^ k words it is exact; the average of 0 is +0.
+-- An average of a sum up to 2 ^ 53 is the quotient of two casts; over 2 ^ k words it is exact. Every average is a number that its
+-- bits give back, and that of 0 is +0.
 -- The formats' large powers stay behind variables: a goal that spells one out is slow.
 -- Assumes nothing.
 use mathlib.Core.Path.{_≡_, refl, sym, ap, _∙_}
-use mathlib.Core.Bool.{true, false, not, true≢false}
-use mathlib.Core.Logic.{_⊎_, inl, inr}
-use Prim.Native.Nat.{ℕ, suc, _+_, _-_, _*_, _^_, _≤_, _<_}
+use mathlib.Core.Bool.{Bool, true, false, not, cond, true≢false}
+use mathlib.Core.Logic.{inl, inr}
+use Prim.Native.Nat.{ℕ, zero, suc, _+_, _-_, _*_, _^_, _≤_, _<_}
 use native.Mathlib.Nat.{mul-one, one-mul, zero-mul, mul-assoc, mul-comm, mul-left-comm, mul-pos, lt-of-lt-of-le, eq-or-lt-of-le}
 use native.Mathlib.Omega.{arith}
 use borrow.Author.Tests.{ne-eqb}
-use lib.Dec.{T, le→leb, lit<}
+use lib.Dec.{T, ltb, le→leb, lit<}
 use lib.IntN.{pos}
 use lib.Pow.{pow-add, pow-pos, pow-mono, shl-lt}
-use lib.Ieee.{Float, fin, Format, binary64, up, down, round, div, ofInt, inFloat, isNan, toBits}
-use lib.Ieee.Fits.{down-pos}
+use lib.Ieee.{Float, inf, fin, Format, binary64, prec, emax, low, up, down, odd, units, round, div, ofInt, inFloat, isNan, ofBits, toBits}
+use lib.Ieee.Bits.{ofBits-toBits}
+use lib.Ieee.Fits.{down-pos, round-fits}
 use lib.Ieee.Exact.{HasValue, round-exact}
 use lib.Ieee.Back.{round-whole}
 use lib.Ieee.Scale.{round-same}
@@ -79,10 +81,39 @@ exactly sum k most few =
       | inr l ↦ shifted-exactly sum k sum 0 l few (omega arith) (sym (mul-one sum))
     ]
 
--- what is exact is a number: its bits may be taken
+-- what is exact is a number
 pub exact-number : (x : Float) (sum words : ℕ) → Exactly x sum words → T (not (isNan x))
 unfolding isNan
 exact-number (fin s m e) sum words h = tt
+
+-- ---- bits
+
+odd-number : (d : ℕ) (s : Bool) (q k l : ℕ) → T (not (isNan (odd d s q k l)))
+unfolding odd isNan
+odd-number d s zero k l = tt
+odd-number d s (suc q) k l = tt
+
+units-number : (f : Format) (s : Bool) (q k : ℕ) → T (not (isNan (units f s q k)))
+unfolding units isNan
+units-number f s q k = go (ltb (q * 2 ^ k) (2 ^ (low f + suc (emax f))))
+  where
+    go : (b : Bool) → T (not (isNan (cond b (odd (suc (prec f)) s q k (low f)) (inf s))))
+    go true = odd-number (suc (prec f)) s q k (low f)
+    go false = tt
+
+round-number : (f : Format) (s : Bool) (num den : ℕ) → T (not (isNan (round f s num den)))
+unfolding round
+round-number f s num den = units-number f s _ _
+
+-- every average is a number, so its bits may be taken
+pub average-number : (sum words : ℕ) → T (not (isNan (averageOf sum words)))
+unfolding averageOf
+average-number sum words = round-number binary64 false sum words
+
+-- and give it back
+pub bits-back : (sum words : ℕ) → ofBits binary64 (toBits binary64 (averageOf sum words)) ≡ averageOf sum words
+unfolding averageOf
+bits-back sum words = ofBits-toBits binary64 (round binary64 false sum words) (round-fits binary64 false sum words)
 
 -- ---- the average of 0
 
