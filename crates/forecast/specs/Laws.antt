@@ -1,3 +1,4 @@
 -- Theorems that other crates and the sources cite.
 pub mod Sums
 pub mod Foretold
+pub mod Foretells

@@ -57,6 +57,14 @@ lost-entry : (s : ℕ) → getD lostEntries s lostEntry ≡ lostEntry
 unfolding lostEntries
 lost-entry s = all-lost maxStates s
 
+pub lost-count : lostCard .count ≡ 0
+unfolding lostCard
+lost-count = refl
+
+pub lost-length : length (lostCard .entries) ≡ maxStates
+unfolding lostCard
+lost-length = lost-places
+
 pub lost-at : (s : ℕ) → getD (lostCard .entries) s lostEntry ≡ lostEntry
 unfolding lostCard
 lost-at s = lost-entry s

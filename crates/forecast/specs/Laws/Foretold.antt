@@ -106,7 +106,7 @@ module _
 
     -- so the card is the sheet's
     pub card-is : cardOf dropped bests leasts words n ≡ forecastCard d
-    unfolding forecastCard
+    unfolding forecastCard entryAt bestsOf leastsOf
     card-is =
         card-ext dropped bests leasts words n (droppedOf d) (bestsOf d) (leastsOf d) (inputsOf d ^ d .horizon) (stateCount d)
         (p .solution .numbering .counted) same
@@ -116,7 +116,6 @@ module _
 
         same : (k : ℕ) → k < n → entryAt dropped bests leasts words k
             ≡ entryAt (droppedOf d) (bestsOf d) (leastsOf d) (inputsOf d ^ d .horizon) k
-        unfolding entryAt bestsOf leastsOf
         same k h =
             let low : k < stateCount d = omega (arith, p .solution .numbering .counted) in
             rw (p .solution .rounds k h)

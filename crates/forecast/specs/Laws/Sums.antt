@@ -140,6 +140,21 @@ best-is d = value-by-top (List ℕ) (inputsOf d) (outputsOf d) (advance d) (mayA
 pub least-best : (d : Decoded) (h : ℕ) (t : List ℕ) → leastAt d h t ≤ bestAt d h t
 least-best d h t = rw (← best-is d h t) (least-most (List ℕ) (inputsOf d) (outputsOf d) (advance d) (mayAt d) (reward d) h t)
 
+pub best-sums-by : (d : Decoded) → stateCount d ≤ maxStates → BestSums d (bestAt d)
+best-sums-by d fits =
+    let r = sums-by d fits largest in
+    record {
+      none = λ t k. sym (best-is d 0 t) ∙ r .none t k;
+      more = λ p t k.
+          let m = r .more p t k in (
+            m .0,
+            sym (best-is d (suc p) t) ∙ m .1,
+            λ i hi.
+                subst (λ (f : ℕ → ℕ). Extremal AtMost (λ o. (o < outputsOf d) × Allowed d t i o) f (m .0 i))
+                (funExt (λ o. ap (λ (v : ℕ). reward d t i o * inputsOf d ^ p + v) (best-is d p (advance d t i o)))) (m .2 i hi),
+          );
+    }
+
 -- the sums of a sheet in bounds are at most 2 ^ 53
 pub best-most : (d : Decoded) → SheetOk d → (t : List ℕ) → bestAt d (d .horizon) t ≤ 2 ^ 53
 best-most d ok t =
