@@ -43,13 +43,15 @@ pub record Figure (pick : Pick) (g : Game) (n p : ℕ) (memory spare values arri
   pub room : length arrivals ≡ length spare
 
 module _ (pick : Pick) (g : Game) (n : ℕ) where
-  figure-begin : (entry : List ℕ) {memory : List ℕ} (spare : List ℕ) → memory ≡ put entry n (λ k. 0) → n ≤ length entry → n ≤ length spare
-      → Figure pick g n 0 memory spare memory spare
+  figure-begin : (entry : List ℕ) {memory : List ℕ} (spare : List ℕ) → memory ≡ put entry n (λ k. 0)
+      → n ≤ length entry → n ≤ length spare → Figure pick g n 0 memory spare memory spare
   figure-begin entry spare e rows spares =
       record {
         rows = rw (e, length-put) rows;
         spares = spares;
-        row = e ∙ sym (put-put entry n (λ k. 0) (λ k. 0)) ∙ ap (λ (m : List ℕ). put m n (λ k. 0)) (sym e) ∙ put-ext _ n _ _ (λ k h. sym (table-none pick g k));
+        row =
+            e ∙ sym (put-put entry n (λ k. 0) (λ k. 0)) ∙ ap (λ (m : List ℕ). put m n (λ k. 0)) (sym e)
+            ∙ put-ext _ n _ _ (λ k h. sym (table-none pick g k));
         room = refl;
       }
 
@@ -121,16 +123,15 @@ pub record Foreseen
     pub least : Figure bottom g n p leasts₀ lows₀ leasts lows
 
 -- `b` and `l` are what stood in the rows before they were cleared
-pub begin : (g : Game) (n horizon : ℕ) (b l : List ℕ) {bests leasts : List ℕ} (highs lows : List ℕ) {factor p : ℕ}
+pub begin : (g : Game) (n horizon : ℕ) (b l : List ℕ) {bests leasts : List ℕ} (highs lows : List ℕ)
     → bests ≡ put b n (λ k. 0) → leasts ≡ put l n (λ k. 0) → (n ≤ length b) × (n ≤ length l) → (n ≤ length highs) × (n ≤ length lows)
-    → factor ≡ 1 → p ≡ 0 → Foreseen g n horizon bests leasts highs lows bests leasts highs lows factor p
-begin g n horizon b l {bests} {leasts} highs lows e f rows spares one none =
-    rw (one, none)
-    (record {
+    → Foreseen g n horizon bests leasts highs lows bests leasts highs lows 1 0
+begin g n horizon b l highs lows e f rows spares =
+    record {
       at = record { within = omega arith; words = sym (pow-zero (g .ins)) };
       best = figure-begin top g n b highs e (rows .0) (spares .0);
       least = figure-begin bottom g n l lows f (rows .1) (spares .1);
-    })
+    }
 
 module _
     {g : Game} {n horizon : ℕ} {bests₀ leasts₀ highs₀ lows₀ bests leasts highs lows : List ℕ} {factor p : ℕ}
@@ -145,8 +146,9 @@ module _
     pub least-asks : Gained n (g .gains) × (Valued n leasts factor × (n ≤ length lows))
     least-asks = figure-asks fits (r .at) smallest (least-bound (fits .sized)) (r .least)
 
-    pub words-most : p < horizon → factor * g .ins ≤ 2 ^ maxHorizon
-    words-most h = few-words fits (step-more fits (r .at) h)
+    -- the numbers of words fit, with an input more too
+    pub words-most : p < horizon → (factor ≤ 2 ^ maxHorizon) × (factor * g .ins ≤ 2 ^ maxHorizon)
+    words-most h = (few-words fits (r .at), few-words fits (step-more fits (r .at) h))
 
     -- with both arrivals prepared
     module _
@@ -154,7 +156,8 @@ module _
         (low : lows' ≡ put lows n (arrival (g .gains) leasts factor))
       where
         -- what `sums_round` asks
-        pub round-asks : SizedGame (bare g) n × (Valued n highs' factor × (Valued n lows' factor × ((n ≤ length bests) × (n ≤ length leasts))))
+        pub round-asks : SizedGame (bare g) n
+            × (Valued n highs' factor × (Valued n lows' factor × ((n ≤ length bests) × (n ≤ length leasts))))
         round-asks = (
           bare-sized (fits .sized),
           (
@@ -166,16 +169,15 @@ module _
           ),
         )
 
-        pub more : {bests' leasts' : List ℕ} {factor' : ℕ} → p < horizon → bests' ≡ put bests n (worthBy top (bare g) highs' factor)
-            → leasts' ≡ put leasts n (worthBy bottom (bare g) lows' factor) → factor' ≡ factor * g .ins
-            → Foreseen g n horizon bests₀ leasts₀ highs₀ lows₀ bests' leasts' highs' lows' factor' (p + 1)
-        more h b l words =
-            rw words
-            (record {
+        pub more : {bests' leasts' : List ℕ} → p < horizon → bests' ≡ put bests n (worthBy top (bare g) highs' factor)
+            → leasts' ≡ put leasts n (worthBy bottom (bare g) lows' factor)
+            → Foreseen g n horizon bests₀ leasts₀ highs₀ lows₀ bests' leasts' highs' lows' (factor * g .ins) (p + 1)
+        more h b l =
+            record {
               at = step-more fits (r .at) h;
               best = figure-more fits (r .at) largest (best-bound (fits .sized)) (r .best) high b;
               least = figure-more fits (r .at) smallest (least-bound (fits .sized)) (r .least) low l;
-            })
+            }
 
     pub end : (b l : List ℕ) → bests₀ ≡ put b n (λ k. 0) → leasts₀ ≡ put l n (λ k. 0) → horizon ≤ p
         → (bests ≡ put b n (tableValue top g horizon))

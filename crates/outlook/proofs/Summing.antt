@@ -1,6 +1,6 @@
 -- The loop over inputs: the sums of the largest and of the smallest scores so far.
 -- Assumes nothing.
-use mathlib.Core.Path.{_≡_, sym, _∙_}
+use mathlib.Core.Path.{_≡_, sym}
 use mathlib.Core.Bool.{Bool, true, false}
 use mathlib.Core.List.{List}
 use Prim.Native.Nat.{ℕ, _+_, _*_, _^_, _≤_, _<_}
@@ -17,7 +17,6 @@ use Rattle.values.specs.Laws.Growth.{best-most}
 use Rattle.outlook.specs.Model.Outlook.{worthBy}
 use Rattle.outlook.specs.Model.Spans.{spanBefore, spanOf, sumsOf}
 use Rattle.outlook.specs.declared.span.Span.{Span}
-use Rattle.outlook.specs.declared.sums.Sums.{Sums}
 
 -- ---- by either pick
 

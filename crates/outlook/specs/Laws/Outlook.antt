@@ -1,7 +1,7 @@
 -- One round takes the values over p steps to those over one step more, by either pick; and how large they become.
 -- Assumes nothing.
 use mathlib.Core.Path.{_≡_, refl, sym, ap, _∙_}
-use mathlib.Core.Bool.{Bool, true, false, cond}
+use mathlib.Core.Bool.{cond}
 use mathlib.Core.List.{List}
 use Prim.Native.Nat.{ℕ, zero, suc, _+_, _*_, _^_, _≤_, _<_}
 use native.Mathlib.Nat.{mul-le-mul}
@@ -13,9 +13,9 @@ use Rattle.records.specs.Meaning.Numbers.{zeros}
 use Rattle.records.specs.Model.Bounded.{top}
 use Rattle.records.specs.Model.Lists.{put}
 use Rattle.records.specs.Laws.Bounded.{sum-cong}
-use Rattle.records.specs.Laws.Lists.{put-put, put-ext, length-put, getD-put-front}
+use Rattle.records.specs.Laws.Lists.{put-put, put-ext, getD-put-front}
 use Rattle.records.specs.Laws.Tests.{by-test}
-use Rattle.game.specs.Model.Extreme.{bottom, Pick, valueBy}
+use Rattle.game.specs.Model.Extreme.{bottom, Pick}
 use Rattle.game.specs.Laws.Extreme.{Picks, largest, value-by-none, value-by-more, least-most}
 use Rattle.rounds.specs.Model.TableRounds.{isIn}
 use Rattle.values.specs.Model.Values.{Game, SizedGame, mayGive, cellNext, earns, scoreOf, worth, valueRow}
@@ -23,7 +23,7 @@ use Rattle.values.specs.Model.Sizes.{Valued}
 use Rattle.values.specs.Model.Arrivals.{arrival, Prepared}
 use Rattle.values.specs.Laws.Sizes.{next-low, next-kept}
 use Rattle.values.specs.Laws.Growth.{row-first, row-next, row-bound}
-use Rattle.values.specs.Laws.Arrivals.{bare, prepared, arrival-score}
+use Rattle.values.specs.Laws.Arrivals.{bare, arrival-score}
 use Rattle.outlook.specs.Model.Outlook.{worthBy, tableValue}
 
 -- ---- over no steps

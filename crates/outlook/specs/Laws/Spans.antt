@@ -1,32 +1,27 @@
--- The loops over outputs and over inputs: the span so far, and the sums so far.
+-- The loop over outputs: the span so far.
 -- Assumes nothing.
-use mathlib.Core.Path.{_≡_, refl, sym, ap, ap₂, _∙_}
-use mathlib.Core.Bool.{Bool, true, false, cond}
+use mathlib.Core.Path.{_≡_, _∙_}
+use mathlib.Core.Bool.{Bool, true, false}
 use mathlib.Core.List.{List, []}
-use Prim.Native.Nat.{ℕ, _+_, _*_, _^_, _≤_, _<_, min, max}
+use Prim.Native.Nat.{ℕ, _+_, _*_, _≤_, _<_}
 use native.Mathlib.Numerals.{add-one}
 use native.Mathlib.Omega.{arith}
-use lib.ListN.{length, getD}
-use Rattle.records.specs.Meaning.Bounded.{any, sum}
+use lib.ListN.{length}
+use Rattle.records.specs.Meaning.Bounded.{any}
 use Rattle.records.specs.Model.Bounded.{top}
-use Rattle.records.specs.Laws.Bounded.{any-of, sum-more, sum-most, top-none, top-more}
+use Rattle.records.specs.Laws.Bounded.{any-of, top-more}
 use Rattle.records.specs.Laws.Tests.{by-test}
-use Rattle.game.specs.Model.Extreme.{bottom, Pick}
-use Rattle.game.specs.Laws.Extreme.{bottom-none, bottom-more, bottom-top}
-use Rattle.rounds.specs.Model.TableRounds.{cellAt, isIn}
+use Rattle.game.specs.Model.Extreme.{bottom}
+use Rattle.game.specs.Laws.Extreme.{bottom-more}
+use Rattle.rounds.specs.Model.TableRounds.{cellAt}
 use Rattle.rounds.specs.Laws.CellPlaces.{maxIndex, InRow, in-row, cell-in}
 use Rattle.values.specs.Model.Values.{Game, mayGive, cellNext, scoreOf}
-use Rattle.values.specs.Model.Sizes.{Ready, bestOf}
+use Rattle.values.specs.Model.Sizes.{Ready}
 use Rattle.values.specs.Model.Arrivals.{scoreIn, Scored, offerOf}
 use Rattle.values.specs.Laws.Sizes.{steps-of, next-low, scored-at, score-read, cell-letter-low}
-use Rattle.values.specs.Laws.Growth.{best-most}
 use Rattle.values.specs.declared.values.Offer.{Offer}
-use Rattle.outlook.specs.Model.Outlook.{worthBy}
-use Rattle.outlook.specs.Model.Spans.{noSpan, widened, spanBefore, spanOf, sumsOf}
+use Rattle.outlook.specs.Model.Spans.{noSpan, widened, spanBefore, spanOf}
 use Rattle.outlook.specs.declared.span.Span.{Span}
-use Rattle.outlook.specs.declared.sums.Sums.{Sums}
-
--- ---- over outputs
 
 -- an offer tells whether the output may be given
 allowed-is : (g : Game) (bests : List ℕ) (factor k i o : ℕ) {offer : Offer} → offer ≡ offerOf g bests factor k i o
@@ -42,8 +37,8 @@ pub record Lands (g : Game) (leasts : List ℕ) (factor k i o : ℕ) : Type 0 wh
   pub scored : (to : ℕ) → to ≡ cellNext g k i o → Scored (g .bonuses) leasts factor to (i + g .ins * o)
 
 module _ {g : Game} {leasts : List ℕ} {factor k : ℕ} (ready : Ready g leasts factor k) {i o : ℕ} (hi : i < g .ins) (ho : o < g .outs) where
-  pub lands : length (g .cells) ≤ maxIndex → (bests : List ℕ) {offer : Offer} → offer ≡ offerOf g bests factor k i o → offer .allowed ≡ true
-      → Lands g leasts factor k i o
+  pub lands : length (g .cells) ≤ maxIndex → (bests : List ℕ) {offer : Offer} → offer ≡ offerOf g bests factor k i o
+      → offer .allowed ≡ true → Lands g leasts factor k i o
   lands size bests e allowed =
       let s = ready .sized in
       let may : mayGive g k i o ≡ true = allowed-is g bests factor k i o e allowed in

@@ -1,11 +1,20 @@
 -- `outlook::horizon::foresee`: after p turns both rows for p steps, and the number of words of p inputs. Assumes nothing.
-use mathlib.Core.Path.{refl, _∙_}
+use mathlib.Core.Path.{_∙_}
 use Prim.Native.Nat.{_-_}
 use native.Mathlib.Omega.{arith}
 use Rattle.values.specs.Model.Values.{Game}
 use Rattle.values.specs.Model.Sizes.{gameOf}
 use Rattle.outlook.proofs.Foreseeing.{
-  Foreseen, Fits, begin, same, best-asks, least-asks, words-most, round-asks, more, end,
+  Foreseen,
+  Fits,
+  begin,
+  same,
+  best-asks,
+  least-asks,
+  words-most,
+  round-asks,
+  more,
+  end,
 }
 use Rattle.outlook.proofs.horizon.foresee.Statement.{statement}
 use Rattle.outlook.proofs.horizon.foresee.Tie as tie
@@ -62,7 +71,7 @@ loop-holds c = let l = c .before .before in
     let b = first l in
     let s = entry b in
     let room = s .pre .1 .1 in
-    begin (game s) _ _ _ _ _ _ (b .clear-front64 .ensures) (l .clear-front642 .ensures) (room .0) (room .1 .0) refl refl
+    begin (game s) _ _ _ _ _ _ (b .clear-front64 .ensures) (l .clear-front642 .ensures) (room .0) (room .1 .0)
 
 prepare-requires : tie.Need-prepare-requires Inv-loop μ-loop
 prepare-requires c κs = let h = c .before .before .before in best-asks (fits (start h)) (h .loop .inv)
@@ -78,7 +87,7 @@ sums-round-requires c κs = let l = ready c in
 
 mul-factor : tie.Need-mul-factor Inv-loop μ-loop
 mul-factor c = let i = turn (high (ready (rounded c .before))) in
-    omega (arith, words-most (fits (start (i .before))) (i .before .loop .inv) (i .loop-test .taken))
+    let (few, most) = words-most (fits (start (i .before))) (i .before .loop .inv) (i .loop-test .taken) in omega (arith, few, most)
 
 add-p : tie.Need-add-p Inv-loop μ-loop
 add-p c = let i = turn (high (ready (rounded c .before))) in
@@ -93,7 +102,7 @@ loop-again c = let v = rounded c in
     let b = high l in
     let i = turn b in
     more (fits (start (i .before))) (i .before .loop .inv) (b .prepare .ensures) (l .prepare2 .ensures) (i .loop-test .taken)
-    (v .sums-round .ensures .0) (v .sums-round .ensures .1) refl
+    (v .sums-round .ensures .0) (v .sums-round .ensures .1)
 
 same-length : tie.Need-same-length Inv-loop μ-loop
 same-length c = let h = c .before in
