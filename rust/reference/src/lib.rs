@@ -8,7 +8,7 @@
 //! they are wrong; [`Product`] numbers the product states and holds their steps; [`Kept`] tells
 //! which of them survive the rounds; [`Values`] weighs the steps over the horizon.
 //! [`make_supervisor`] and [`make_guard`] write the tables, and a [`Board`] runs a guard table.
-//! [`list`] prints one.
+//! [`list`] prints one. [`forecast`] tells how well each product state can still do.
 //!
 //! ```
 //! let sheet: Vec<u8> = [
@@ -26,16 +26,19 @@
 
 mod board;
 mod fault;
+mod forecast;
 mod listing;
 mod product;
 mod reading;
 mod refusal;
 mod sheet;
+mod solved;
 mod tables;
 mod values;
 
 pub use board::{loadable, Board, TableHead, STEPS_MOST};
 pub use fault::Fault;
+pub use forecast::{forecast, Averages, Prospect};
 pub use listing::{list, list_table, SHEET_BYTES_MOST};
 pub use product::{Edge, Kept, Product, STATES_MOST};
 pub use refusal::Refusal;

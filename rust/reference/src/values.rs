@@ -40,6 +40,11 @@ impl Values {
         Values { best, shift, order: sheet.output_order() }
     }
 
+    /// Best(s, H); 0 for a state that is not kept.
+    pub fn best(&self, state: usize) -> u64 {
+        self.best[state]
+    }
+
     /// What the best plans that begin with the output earn; nothing if it is not allowed.
     pub fn score(
         &self,

@@ -1,4 +1,4 @@
-//! Document 01's notebook: sheet A and its listing, P1 to P10, the two counters.
+//! Document 01's notebook: sheet A and its listing, P1 to P10, the two counters; and some forecasts.
 
 use reference::*;
 
@@ -177,6 +177,48 @@ fn p10_a_seventh_monitor_of_bad_weight() {
     assert_eq!(guard_table(&[six, bad.clone()].concat()), Err(Refusal::SeventhMonitor));
     let early = [head(0, 1, 0, 0, &[0]), bad].concat();
     assert_eq!(guard_table(&early), Err(Refusal::BadMonitor));
+}
+
+/// A card's entries: best and least, nothing where the state is lost.
+fn card(sheet: &[u8]) -> Vec<Option<(f64, f64)>> {
+    let pair = |prospect: &Prospect| match prospect {
+        Prospect::Lost => None,
+        Prospect::Worth(Averages { best, least }) => Some((*best, *least)),
+    };
+    forecast(sheet).unwrap().iter().map(pair).collect()
+}
+
+/// Where it may be on, all or nothing is earned; where it has just been on, 3 at input off alone.
+#[test]
+fn forecast_of_a() {
+    let (free, bound) = (Some((3.0, 0.0)), Some((1.5, 1.5)));
+    assert_eq!(card(&sheet_a()), [free, free, bound, bound]);
+}
+
+/// Over three steps of never on twice, 1 for on: on, off, on is best, always off is least.
+#[test]
+fn forecast_over_three_steps() {
+    let sheet = [head(0, 1, 3, 0, &[0]), never_on_twice(), on_letters(1, 1, 4, 0b1100)].concat();
+    assert_eq!(card(&sheet), [Some((2.0, 0.0)), Some((1.0, 0.0))]);
+}
+
+/// On leads to a state that breaks at the next step, so that off alone is allowed.
+#[test]
+fn forecast_with_a_lost_state() {
+    let doomed = monitor(0, 0, 0, &[1, 1, 0], &[&[0, 0, 1, 1], &[2; 4], &[2; 4]]);
+    let sheet = [head(0, 1, 2, 0, &[0]), doomed, on_letters(1, 5, 4, 0b1110)].concat();
+    assert_eq!(card(&sheet), [Some((5.0, 5.0)), Some((5.0, 5.0)), None]);
+}
+
+#[test]
+fn forecast_at_horizon_0_and_refused() {
+    let sheet = [head(0, 1, 0, 0, &[0]), never_on_twice(), on_letters(1, 3, 4, 0b1001)].concat();
+    for entry in card(&sheet) {
+        assert_eq!(entry.map(|(best, least)| (best.to_bits(), least.to_bits())), Some((0, 0)));
+    }
+    let unrealizable = [sheet_a(), on_letters(0, 0, 4, 0b1101)].concat();
+    assert_eq!(forecast(&unrealizable), Err(Refusal::Unrealizable));
+    assert_eq!(forecast(&[]), Err(Refusal::Misplaced));
 }
 
 #[test]
