@@ -51,22 +51,34 @@ extern "C" {
 #define HZ_GUARD_BYTES_MOST 9226      /* a guard table */
 #define HZ_LISTING_BYTES_MOST 25897   /* a listing */
 
-/* Work memory: the least lengths, in elements. The first three are the supervisor's, all nine the guard's: 37,906 and
- * 43,666 bytes. It may hold anything before a call; after it, refused or not, all that was lent is zero. */
+/* Work memory: the least lengths, in elements. The first three are lent to every maker, and are all that the supervisor's
+ * needs; the next two are the guard's and the forecast's, and then each has four of its own: 37,906, 43,666 and 46,738
+ * bytes. It may hold anything before a call; after it, refused or not, all that was lent is zero. */
 
-#define HZ_WORK_TUPLES 256   /* uint64_t */
-#define HZ_WORK_CELLS 16384  /* uint16_t */
-#define HZ_WORK_DROPPED 1545 /* uint16_t */
-#define HZ_WORK_GAINS 256    /* uint16_t */
-#define HZ_WORK_BONUSES 64   /* uint16_t */
-#define HZ_WORK_VALUES 256   /* uint64_t */
-#define HZ_WORK_ARRIVALS 256 /* uint64_t */
-#define HZ_WORK_ORDER 256    /* uint16_t */
-#define HZ_WORK_NUMBERS 256  /* uint16_t */
+#define HZ_WORK_TUPLES 256         /* uint64_t */
+#define HZ_WORK_CELLS 16384        /* uint16_t */
+#define HZ_WORK_DROPPED 1545       /* uint16_t */
+#define HZ_WORK_GAINS 256          /* uint16_t; guard and forecast */
+#define HZ_WORK_BONUSES 64         /* uint16_t; guard and forecast */
+#define HZ_WORK_VALUES 256         /* uint64_t; guard */
+#define HZ_WORK_ARRIVALS 256       /* uint64_t; guard */
+#define HZ_WORK_ORDER 256          /* uint16_t; guard */
+#define HZ_WORK_NUMBERS 256        /* uint16_t; guard */
+#define HZ_WORK_BESTS 256          /* uint64_t; forecast */
+#define HZ_WORK_LEASTS 256         /* uint64_t; forecast */
+#define HZ_WORK_BEST_ARRIVALS 256  /* uint64_t; forecast */
+#define HZ_WORK_LEAST_ARRIVALS 256 /* uint64_t; forecast */
 
 /* The figures that the makers report, in elements; hz_list reports one. */
 
 #define HZ_FIGURES 2
+
+/* A forecast card, in elements: the number of product states, then two words for each of the 256 that there may be. They are
+ * the bits of two doubles (IEEE 754), the state's best and its least average reward over the horizon's steps; both are
+ * HZ_LOST, which no average is, where the state is lost or there is none of that number. */
+
+#define HZ_CARD_WORDS 513
+#define HZ_LOST UINT64_MAX
 
 /* A board is 16 bytes, numbers little-endian. All zero is an empty board; so is any other whose fields do not fit
  * together, and a call never needs a board to be anything.
@@ -109,6 +121,25 @@ uint32_t hz_make_guard(const uint8_t *sheet, size_t sheet_len,
                        uint16_t *order, size_t order_len,
                        uint16_t *numbers, size_t numbers_len,
                        uint64_t *figures, size_t figures_len);
+
+/* Makes the forecast card: how well each product state can still do. States are numbered as in the supervisor table.
+ *
+ * card_len MUST be at least HZ_CARD_WORDS.
+ * HZ_OK: card[0] is the number of product states; card[1 + 2 * k] and card[2 + 2 * k] are state k's averages, both 0 at
+ * horizon 0. Each is exact: times 2^(inputs * horizon) it is a whole sum of rewards.
+ * Refused: card[0] is 0 and every entry HZ_LOST. As of hz_make_guard, but never HZ_SHORT_RESULT.
+ * Words past HZ_CARD_WORDS are left alone. Work memory is zero afterwards, over all the length that was lent. */
+uint32_t hz_forecast(const uint8_t *sheet, size_t sheet_len,
+                     uint64_t *tuples, size_t tuples_len,
+                     uint16_t *cells, size_t cells_len,
+                     uint16_t *dropped, size_t dropped_len,
+                     uint16_t *gains, size_t gains_len,
+                     uint16_t *bonuses, size_t bonuses_len,
+                     uint64_t *bests, size_t bests_len,
+                     uint64_t *leasts, size_t leasts_len,
+                     uint64_t *best_arrivals, size_t best_arrivals_len,
+                     uint64_t *least_arrivals, size_t least_arrivals_len,
+                     uint64_t *card, size_t card_len);
 
 /* The calls on a board: board_len MUST be exactly HZ_BOARD_BYTES. A refused call changes no byte of the board. A table's length is
  * exactly what the maker said: of a longer slice the call is refused. */

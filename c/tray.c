@@ -1,9 +1,10 @@
 /* A tray lock: one line in (a tray is there), one line out (open). It is never open twice running, and open with a tray
- * if that can be. Makes the guard of this sheet, lists it, and runs it on a board; all memory is static. c/README.md says how to
- * build it. */
+ * if that can be. Forecasts how well each of its states can do, makes the guard of this sheet, lists it, and runs it on a board; all
+ * memory is static. c/README.md says how to build it. */
 
 #include <stdint.h>
 #include <stdio.h>
+#include <string.h>
 
 #include "hundlezoqa.h"
 
@@ -21,6 +22,7 @@ static const uint8_t sheet[] = {
 static uint8_t table[HZ_GUARD_BYTES_MOST];
 static uint8_t text[HZ_LISTING_BYTES_MOST];
 static uint8_t board[HZ_BOARD_BYTES]; /* all zero: empty */
+static uint64_t card[HZ_CARD_WORDS];
 
 static uint64_t tuples[HZ_WORK_TUPLES];
 static uint16_t cells[HZ_WORK_CELLS];
@@ -31,6 +33,10 @@ static uint64_t values[HZ_WORK_VALUES];
 static uint64_t arrivals[HZ_WORK_ARRIVALS];
 static uint16_t order[HZ_WORK_ORDER];
 static uint16_t numbers[HZ_WORK_NUMBERS];
+static uint64_t bests[HZ_WORK_BESTS];
+static uint64_t leasts[HZ_WORK_LEASTS];
+static uint64_t best_arrivals[HZ_WORK_BEST_ARRIVALS];
+static uint64_t least_arrivals[HZ_WORK_LEAST_ARRIVALS];
 
 /* Says that a call was refused, and answers whether it was. */
 static int refused(const char *call, uint32_t number)
@@ -46,12 +52,42 @@ static unsigned long steps(void)
     return board[8] | (unsigned long)board[9] << 8 | (unsigned long)board[10] << 16 | (unsigned long)board[11] << 24;
 }
 
+/* An average of the card, from its bits. */
+static double average(uint64_t bits)
+{
+    double value;
+    memcpy(&value, &bits, sizeof value);
+    return value;
+}
+
+/* Makes the card, and prints a line for each product state. */
+static uint32_t forecast(void)
+{
+    uint64_t k;
+    uint32_t answer;
+
+    answer = hz_forecast(sheet, LENGTH(sheet), tuples, LENGTH(tuples), cells, LENGTH(cells), dropped, LENGTH(dropped),
+                         gains, LENGTH(gains), bonuses, LENGTH(bonuses), bests, LENGTH(bests), leasts, LENGTH(leasts),
+                         best_arrivals, LENGTH(best_arrivals), least_arrivals, LENGTH(least_arrivals),
+                         card, LENGTH(card));
+    for (k = 0; k < card[0]; k++) /* refused: none */
+        if (card[1 + 2 * k] == HZ_LOST)
+            printf("product state %lu: lost\n", (unsigned long)k);
+        else
+            printf("product state %lu: best %g, least %g\n", (unsigned long)k, average(card[1 + 2 * k]),
+                   average(card[2 + 2 * k]));
+    return answer;
+}
+
 int main(void)
 {
     static const uint8_t trays[] = {1, 1, 1, 0, 1};
     uint64_t figures[HZ_FIGURES];
     size_t length, i;
     uint32_t answer;
+
+    if (refused("hz_forecast", forecast()))
+        return 1;
 
     answer = hz_make_guard(sheet, LENGTH(sheet), table, LENGTH(table), tuples, LENGTH(tuples), cells, LENGTH(cells),
                            dropped, LENGTH(dropped), gains, LENGTH(gains), bonuses, LENGTH(bonuses),

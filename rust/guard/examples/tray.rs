@@ -4,7 +4,7 @@
 //! Run with `cargo run --offline --example tray`, after `rt staticlib hundlezoqa_c`.
 
 use guard::sheet::Sheet;
-use guard::{Board, Guard, Refusal, Supervisor, Work};
+use guard::{Board, Forecast, Guard, Refusal, Supervisor, Work};
 
 fn main() -> Result<(), Refusal> {
     // A letter is tray + 2 x open.
@@ -25,6 +25,9 @@ fn main() -> Result<(), Refusal> {
         let masks: Vec<u8> =
             (0..1 << supervisor.inputs()).map(|i| supervisor.mask(state, i)).collect();
         println!("product state {state}: kept {}, masks {masks:?}", supervisor.is_kept(state));
+    }
+    for (state, prospect) in Forecast::make(&sheet, &mut work)?.iter().enumerate() {
+        println!("product state {state}: {prospect:?}");
     }
     let guard = Guard::make(&sheet, &mut work)?;
     let mut board = Board::new();

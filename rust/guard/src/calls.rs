@@ -5,6 +5,7 @@
 //! and a length in elements; the library reads through `*const`, reads and writes through `*mut`,
 //! and keeps no pointer when it returns.
 
+use crate::work::STATES_MOST;
 use crate::Work;
 
 /// The bytes of a board: loaded (true only for the byte 1), mode, inputs, outputs, then count and
@@ -16,6 +17,14 @@ pub const FIGURES: usize = 2;
 
 /// The figures that a listing reports: the text's length, or zero.
 pub const LISTING_FIGURES: usize = 1;
+
+/// The words of a forecast card: the number of product states, then for each of as many as there
+/// may be the bits of its best average and of its least, [`LOST`] where there are none.
+pub const CARD_WORDS: usize = 1 + 2 * STATES_MOST;
+
+/// Both words of a card's entry for a state that is lost, or that there isn't. No average has these
+/// bits.
+pub const LOST: u64 = u64::MAX;
 
 /// Declares the library's functions, and where the library was not found their stand-ins.
 macro_rules! library {
@@ -56,6 +65,19 @@ library! {
         order: *mut u16, order_len: usize,
         numbers: *mut u16, numbers_len: usize,
         figures: *mut u64, figures_len: usize,
+    ) -> u32;
+    fn hz_forecast(
+        sheet: *const u8, sheet_len: usize,
+        tuples: *mut u64, tuples_len: usize,
+        cells: *mut u16, cells_len: usize,
+        dropped: *mut u16, dropped_len: usize,
+        gains: *mut u16, gains_len: usize,
+        bonuses: *mut u16, bonuses_len: usize,
+        bests: *mut u64, bests_len: usize,
+        leasts: *mut u64, leasts_len: usize,
+        best_arrivals: *mut u64, best_arrivals_len: usize,
+        least_arrivals: *mut u64, least_arrivals_len: usize,
+        card: *mut u64, card_len: usize,
     ) -> u32;
     fn hz_load(board: *mut u8, board_len: usize, table: *const u8, table_len: usize) -> u32;
     fn hz_step(
@@ -101,17 +123,17 @@ pub fn make_supervisor(
     }
 }
 
-/// Makes a guard table; `work` lends all that it has.
+/// Makes a guard table; `work` lends those and gains, bonuses, values, arrivals, order and numbers.
 pub fn make_guard(
     sheet: &[u8],
     result: &mut [u8],
     work: &mut Work,
     figures: &mut [u64; FIGURES],
 ) -> u32 {
-    // SAFETY: `sheet` is valid for reads of its length. `result`, `figures` and the nine vectors of
-    // `work` are each valid for reads and writes of their own length; each is borrowed by `&mut` or
-    // owned by what is, so that no two of the twelve overlap. The one length asked for is that of
-    // the figures, at least 2, and `FIGURES` is 2; shorter work or result memory is refused.
+    // SAFETY: `sheet` is valid for reads of its length. `result`, `figures` and the nine vectors
+    // that `work` lends are each valid for reads and writes of their own length; each is borrowed by
+    // `&mut` or owned by what is, so that no two of the twelve overlap. The one length asked for is
+    // that of the figures, at least 2, and `FIGURES` is 2; shorter work or result memory is refused.
     unsafe {
         hz_make_guard(
             sheet.as_ptr(),
@@ -138,6 +160,43 @@ pub fn make_guard(
             work.numbers.len(),
             figures.as_mut_ptr(),
             figures.len(),
+        )
+    }
+}
+
+/// Makes a forecast card at the start of the memory for it, which may be longer; `work` lends
+/// tuples, cells, dropped, gains, bonuses, bests, leasts and both arrivals.
+pub fn forecast<const WORDS: usize>(sheet: &[u8], work: &mut Work, card: &mut [u64; WORDS]) -> u32 {
+    const { assert!(WORDS >= CARD_WORDS, "a card is longer") }
+    // SAFETY: `sheet` is valid for reads of its length. `card` and the nine vectors that `work` lends
+    // are each valid for reads and writes of their own length; each is borrowed by `&mut` or owned by
+    // what is, so that no two of the eleven overlap. The one length asked for is that of the card, at
+    // least 513, and `WORDS` was held against `CARD_WORDS`, which is 513; shorter work memory is
+    // refused.
+    unsafe {
+        hz_forecast(
+            sheet.as_ptr(),
+            sheet.len(),
+            work.tuples.as_mut_ptr(),
+            work.tuples.len(),
+            work.cells.as_mut_ptr(),
+            work.cells.len(),
+            work.dropped.as_mut_ptr(),
+            work.dropped.len(),
+            work.gains.as_mut_ptr(),
+            work.gains.len(),
+            work.bonuses.as_mut_ptr(),
+            work.bonuses.len(),
+            work.bests.as_mut_ptr(),
+            work.bests.len(),
+            work.leasts.as_mut_ptr(),
+            work.leasts.len(),
+            work.best_arrivals.as_mut_ptr(),
+            work.best_arrivals.len(),
+            work.least_arrivals.as_mut_ptr(),
+            work.least_arrivals.len(),
+            card.as_mut_ptr(),
+            card.len(),
         )
     }
 }

@@ -4,7 +4,8 @@
 //! like (weighted ones) and how far it looks ahead (the horizon). From its bytes
 //! [`Supervisor::make`] works out every output that can still be survived, and [`Guard::make`]
 //! the table that the board runs by: for each state and input the output and the next state.
-//! A [`Board`] loads such a table and answers one input after another.
+//! A [`Board`] loads such a table and answers one input after another. [`Forecast::make`] tells how
+//! well each state can still do.
 //!
 //! The work is done by functions that were proved to meet their contracts, linked as a static
 //! library; all that this crate adds is types. What is unsafe is in the module [`calls`], where
@@ -20,7 +21,7 @@
 #![cfg_attr(guard_library, doc = "```")]
 #![cfg_attr(not(guard_library), doc = "```no_run")]
 //! use guard::sheet::Sheet;
-//! use guard::{Board, Guard, Refusal, Supervisor, Work};
+//! use guard::{Averages, Board, Forecast, Guard, Prospect, Refusal, Supervisor, Work};
 //!
 //! // A letter is input + 2 x output; state 2 is the break.
 //! let sheet = Sheet::controller(1, 1)
@@ -39,6 +40,13 @@
 //! assert!(supervisor.allows(0, 1, 1)); // at the start, input on: on may be given,
 //! assert!(!supervisor.allows(2, 1, 1)); // but not when it was on a step ago
 //!
+//! let forecast = Forecast::make(&sheet, &mut work)?;
+//! let free = Averages { best: 3.0, least: 0.0 };
+//! assert_eq!(forecast.get(0), Some(Prospect::Worth(free)));
+//! for (state, prospect) in forecast.iter().enumerate() {
+//!     assert_eq!(*prospect != Prospect::Lost, supervisor.is_kept(state));
+//! }
+//!
 //! let guard = Guard::make(&sheet, &mut work)?;
 //! let mut board = Board::new();
 //! board.load(&guard)?;
@@ -54,12 +62,14 @@
 mod board;
 #[allow(unsafe_code)]
 pub mod calls;
+mod forecast;
 mod refusal;
 pub mod sheet;
 mod tables;
 mod work;
 
 pub use board::{Board, Fields};
+pub use forecast::{Averages, Forecast, Prospect};
 pub use refusal::Refusal;
 pub use tables::{Guard, Made, Supervisor};
 pub use work::Work;

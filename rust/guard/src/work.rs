@@ -31,6 +31,14 @@ pub struct Work {
     pub order: Vec<u16>,
     /// The guard's number of each product state.
     pub numbers: Vec<u16>,
+    /// The sum behind each product state's best average over the steps so far.
+    pub bests: Vec<u64>,
+    /// The sum behind its least.
+    pub leasts: Vec<u64>,
+    /// What arriving in each product state earns and is worth at best.
+    pub best_arrivals: Vec<u64>,
+    /// What it is worth at least.
+    pub least_arrivals: Vec<u64>,
 }
 
 /// The least lengths, in elements.
@@ -45,10 +53,14 @@ impl Work {
     pub const ARRIVALS: usize = STATES_MOST;
     pub const ORDER: usize = STATES_MOST;
     pub const NUMBERS: usize = STATES_MOST;
+    pub const BESTS: usize = STATES_MOST;
+    pub const LEASTS: usize = STATES_MOST;
+    pub const BEST_ARRIVALS: usize = STATES_MOST;
+    pub const LEAST_ARRIVALS: usize = STATES_MOST;
 }
 
 impl Work {
-    /// As much as both makers need.
+    /// As much as every maker needs.
     pub fn new() -> Work {
         Work {
             tuples: vec![0; Work::TUPLES],
@@ -60,25 +72,28 @@ impl Work {
             arrivals: vec![0; Work::ARRIVALS],
             order: vec![0; Work::ORDER],
             numbers: vec![0; Work::NUMBERS],
+            bests: vec![0; Work::BESTS],
+            leasts: vec![0; Work::LEASTS],
+            best_arrivals: vec![0; Work::BEST_ARRIVALS],
+            least_arrivals: vec![0; Work::LEAST_ARRIVALS],
         }
     }
 
     /// Whether all of it is zero.
     pub fn is_clear(&self) -> bool {
-        self.is_clear_for_supervisor()
-            && self.gains.iter().all(|&x| x == 0)
-            && self.bonuses.iter().all(|&x| x == 0)
-            && self.values.iter().all(|&x| x == 0)
-            && self.arrivals.iter().all(|&x| x == 0)
-            && self.order.iter().all(|&x| x == 0)
-            && self.numbers.iter().all(|&x| x == 0)
-    }
-
-    /// Whether what the making of a supervisor is lent is zero.
-    pub fn is_clear_for_supervisor(&self) -> bool {
-        self.tuples.iter().all(|&x| x == 0)
-            && self.cells.iter().all(|&x| x == 0)
-            && self.dropped.iter().all(|&x| x == 0)
+        let words = [
+            &self.tuples,
+            &self.values,
+            &self.arrivals,
+            &self.bests,
+            &self.leasts,
+            &self.best_arrivals,
+            &self.least_arrivals,
+        ];
+        let halves =
+            [&self.cells, &self.dropped, &self.gains, &self.bonuses, &self.order, &self.numbers];
+        words.into_iter().flatten().all(|&x| x == 0)
+            && halves.into_iter().flatten().all(|&x| x == 0)
     }
 }
 
@@ -88,9 +103,10 @@ impl Default for Work {
     }
 }
 
-// Document 01's bound on the bytes of all work memory together.
+// Document 01's bound on the bytes of one call's work memory; those of all calls together keep it.
 const _: () = assert!(
     8 * (Work::TUPLES + Work::VALUES + Work::ARRIVALS)
+        + 8 * (Work::BESTS + Work::LEASTS + Work::BEST_ARRIVALS + Work::LEAST_ARRIVALS)
         + 2 * (Work::CELLS + Work::DROPPED + Work::GAINS + Work::BONUSES)
         + 2 * (Work::ORDER + Work::NUMBERS)
         <= 65_536
