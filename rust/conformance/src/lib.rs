@@ -1,12 +1,14 @@
 //! What the proved library and the reference answer, side by side.
 //!
 //! [`vectors`] runs a file of expected answers against a [`Subject`]; [`generate`] makes sheets,
-//! tables and boards, sound and damaged, for the property tests in `tests/`.
+//! tables and boards, sound and damaged, for the property tests in `tests/`, and [`work`] the memory
+//! that the makers are lent there.
 
 pub mod generate;
 pub mod random;
 pub mod subject;
 pub mod vectors;
+pub mod work;
 
 pub use random::Random;
 pub use subject::{Library, Reference, Subject};

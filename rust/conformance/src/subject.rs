@@ -5,7 +5,10 @@ use std::path::{Path, PathBuf};
 use std::process::{Command, Stdio};
 
 use guard::{calls, Guard, Work};
-use reference::Board;
+use reference::{Averages, Board, Prospect};
+
+/// A forecast card as the library writes it.
+pub type Card = [u64; calls::CARD_WORDS];
 
 /// The calls of document 01, answered by numbers.
 pub trait Subject {
@@ -13,6 +16,8 @@ pub trait Subject {
     fn make_supervisor(&mut self, sheet: &[u8], result: &mut [u8]) -> (u32, u64);
     /// Makes a guard table: number and length.
     fn make_guard(&mut self, sheet: &[u8], result: &mut [u8]) -> (u32, u64);
+    /// Makes a forecast card: number.
+    fn forecast(&mut self, sheet: &[u8], card: &mut Card) -> u32;
     /// Loads: number.
     fn load(&mut self, board: &mut Board, table: &[u8]) -> u32;
     /// Steps: number and output.
@@ -30,6 +35,19 @@ pub fn number<T>(answer: &Result<T, reference::Refusal>) -> u32 {
     answer.as_ref().map_or_else(|refusal| refusal.number(), |_| 0)
 }
 
+/// The card of the reference's forecast: what is not there is lost, and of a refusal that is all.
+pub fn card_of(forecast: &Result<Vec<Prospect>, reference::Refusal>) -> Card {
+    let prospects = forecast.as_deref().unwrap_or_default();
+    let mut card = [calls::LOST; calls::CARD_WORDS];
+    card[0] = prospects.len() as u64;
+    for (entry, prospect) in card[1..].chunks_exact_mut(2).zip(prospects) {
+        if let Prospect::Worth(Averages { best, least }) = prospect {
+            entry.copy_from_slice(&[best.to_bits(), least.to_bits()]);
+        }
+    }
+    card
+}
+
 /// The independent reference.
 pub struct Reference;
 
@@ -42,6 +60,12 @@ impl Subject for Reference {
     fn make_guard(&mut self, sheet: &[u8], result: &mut [u8]) -> (u32, u64) {
         let made = reference::make_guard(sheet, result);
         (number(&made), made.map_or(0, |m| m.length as u64))
+    }
+
+    fn forecast(&mut self, sheet: &[u8], card: &mut Card) -> u32 {
+        let forecast = reference::forecast(sheet);
+        *card = card_of(&forecast);
+        number(&forecast)
     }
 
     fn load(&mut self, board: &mut Board, table: &[u8]) -> u32 {
@@ -128,6 +152,10 @@ impl Subject for Library {
         let mut figures = [u64::MAX; calls::FIGURES];
         let number = calls::make_guard(sheet, result, &mut self.work, &mut figures);
         (number, figures[0])
+    }
+
+    fn forecast(&mut self, sheet: &[u8], card: &mut Card) -> u32 {
+        calls::forecast(sheet, &mut self.work, card)
     }
 
     fn load(&mut self, board: &mut Board, table: &[u8]) -> u32 {

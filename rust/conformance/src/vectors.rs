@@ -4,18 +4,20 @@ use std::cmp::Ordering;
 use std::fmt;
 use std::str::FromStr;
 
+use guard::calls::{CARD_WORDS, LOST};
 use reference::Board;
 
 use crate::Subject;
 
 /// The present level: the base is 0, level k knows the change requests N1 to Nk.
-pub const LEVEL: u32 = 0;
+pub const LEVEL: u32 = 1;
 
 /// Every kind of line that the present level has, by its letter. The next level raises [`LEVEL`],
 /// adds its kinds here, and to [`Subject`] the calls that they compare.
 const KINDS: &[(&str, Comparison)] = &[
     ("S", tables),
     ("R", room),
+    ("C", forecast),
     (LISTING, listing),
     ("D", load),
     ("B", step),
@@ -157,6 +159,11 @@ impl<'a> Fields<'a> {
         }
     }
 
+    /// All the fields that are left.
+    fn rest(&mut self) -> Vec<&'a str> {
+        std::mem::take(&mut self.0).split_whitespace().collect()
+    }
+
     /// All that is left, blanks included, `\n` for a line's end.
     fn text(&mut self) -> String {
         std::mem::take(&mut self.0).replace("\\n", "\n")
@@ -273,6 +280,28 @@ fn room(line: &mut Fields, subject: &mut dyn Subject) -> Compared {
     making.compare("guard", room, &mut |result| subject.make_guard(&sheet, result))
 }
 
+/// An entry of a card, as a line has it.
+fn entry(words: &[u64]) -> String {
+    match words {
+        [LOST, LOST] => "lost".to_string(),
+        _ => format!("{:016x}:{:016x}", words[0], words[1]),
+    }
+}
+
+fn forecast(line: &mut Fields, subject: &mut dyn Subject) -> Compared {
+    let (sheet, no, count): (_, _, u64) = (line.bytes()?, line.number()?, line.number()?);
+    let entries = line.rest();
+    same("count and entries", &count, &(entries.len() as u64))?;
+    let mut card = [FILL.into(); CARD_WORDS];
+    same("number", &no, &subject.forecast(&sheet, &mut card))?;
+    same("count", &count, &card[0])?;
+    for (state, words) in card[1..].chunks_exact(2).enumerate() {
+        let expected = entries.get(state).copied().unwrap_or("lost");
+        same(&format!("state {state}"), &expected, &entry(words).as_str())?;
+    }
+    Ok(())
+}
+
 fn listing(line: &mut Fields, subject: &mut dyn Subject) -> Compared {
     let (sheet, text) = (line.bytes()?, line.text());
     same("listing", &text, &subject.list(&sheet))
@@ -334,6 +363,9 @@ mod tests {
 
     const A: &str = "06000100000101010000130002000000030001010000000101000002020202020\
                      20e0002000103020000010100000101000001";
+    /// Best and least 3 and 0 in two states, 1.5 in the others.
+    const CARD_OF_A: &str = " 4008000000000000:0000000000000000 4008000000000000:0000000000000000 \
+                             3ff8000000000000:3ff8000000000000 3ff8000000000000:3ff8000000000000";
     const EMPTY: &str = "0,0,0,0,0,0,0,0";
 
     fn of(line: &str) -> Outcome {
@@ -362,6 +394,8 @@ mod tests {
             format!("D {LEVEL} - 11"),
             "L - refused 2\\n".to_string(),
             format!("R {LEVEL} {A} 33 9 0"),
+            format!("C {LEVEL} - 2 0"),
+            format!("C {LEVEL} {A} 0 4{CARD_OF_A}"),
             format!("O {LEVEL} {EMPTY} unload 7 20 {EMPTY}"),
             format!("B {LEVEL} {EMPTY} - 255 20 {EMPTY} 0"),
         ];
@@ -379,6 +413,13 @@ mod tests {
             format!("D {LEVEL} - 0"),
             "L - refused 1\\n".to_string(),
             format!("R {LEVEL} {A} 33 0 46"),
+            format!("C {LEVEL} - 1 0"),
+            format!("C {LEVEL} - 2 1 lost"),
+            format!("C {LEVEL} {A} 8 4{CARD_OF_A}"),
+            format!("C {LEVEL} {A} 0 3{}", CARD_OF_A.rsplit_once(' ').unwrap().0),
+            format!("C {LEVEL} {A} 0 5{CARD_OF_A} lost"),
+            format!("C {LEVEL} {A} 0 4{}", CARD_OF_A.replacen("0000000000000000", "lost", 1)),
+            format!("C {LEVEL} {A} 0 4{}", CARD_OF_A.replacen(":0", ":8", 1)),
             format!("O {LEVEL} {EMPTY} unload 7 0 {EMPTY}"),
             format!("B {LEVEL} {EMPTY} - 255 20 1,0,0,0,0,0,0,0 0"),
             format!("Q {LEVEL} - - - {EMPTY}"),
@@ -412,6 +453,10 @@ mod tests {
             format!("B {LEVEL} {EMPTY} - 256 20 {EMPTY} 0"),
             format!("Q {LEVEL} - 0 0 {EMPTY}"),
             format!("R {LEVEL} {A} 18446744073709551615 0 46"),
+            format!("C {LEVEL} - 2"),
+            format!("C {LEVEL} - 2 0 lost"),
+            format!("C {LEVEL} {A} 0 257{}", " lost".repeat(257)),
+            format!("C {LEVEL} {A} 0 4 won{}", CARD_OF_A.rsplit_once(' ').unwrap().0),
         ];
         lines.extend(LEVEL.checked_sub(1).map(|earlier| format!("S {earlier} - 2 - -")));
         for line in lines {

@@ -22,19 +22,82 @@ fn constant(name: &str) -> String {
     constant
 }
 
-/// The listing's longest text, of Rattle's constants: a line for the head and one for each state.
-fn listing_bytes_most() -> usize {
-    let report = source("crates/report/src/lib.rt");
-    let line = |name: &str| -> usize {
-        let (_, rest) = report.split_once(&format!("const {name}: usize = ")).expect("it is there");
-        rest.split(';').next().unwrap_or_default().parse().expect("a number")
-    };
-    line("HEAD_LINE") + line("ROW_LINE") * Work::TUPLES
+/// Where the types of Rattle's that have sizes are.
+const TYPES: [(&str, &str); 6] = [
+    ("Limits", "crates/records/src/limits.rt"),
+    ("Index", "crates/states/src/index.rt"),
+    ("Supervisor", "crates/supervisor/src/make.rt"),
+    ("Guard", "crates/guard/src/make.rt"),
+    ("Forecast", "crates/forecast/src/make.rt"),
+    ("Report", "crates/report/src/lib.rt"),
+];
+
+fn source_of(owner: &str) -> String {
+    let found = TYPES.iter().find(|(name, _)| *name == owner);
+    source(found.unwrap_or_else(|| panic!("no source of {owner}")).1)
+}
+
+/// The value of one of Rattle's constants, `Type::NAME`.
+fn rattle(constant: &str) -> usize {
+    let (owner, name) = constant.split_once("::").expect("a type and its constant");
+    let text = source_of(owner);
+    let (_, rest) = text.split_once(&format!("const {name}: ")).expect("it is there");
+    let (_, rest) = rest.split_once(" = ").expect("a value");
+    value(rest.split(';').next().unwrap_or_default())
+}
+
+/// The value of a power of two, or of a sum of products, of numbers and constants.
+fn value(expression: &str) -> usize {
+    let factor = |word: &str| word.trim().parse().unwrap_or_else(|_| rattle(word.trim()));
+    match expression.strip_prefix("1 << ") {
+        Some(exponent) => 1 << factor(exponent),
+        None => expression.split('+').map(|p| p.split('*').map(factor).product::<usize>()).sum(),
+    }
+}
+
+/// The numbers that the header defines.
+fn defined() -> BTreeMap<String, usize> {
+    let mut defined = BTreeMap::new();
+    for line in source("c/hundlezoqa.h").lines() {
+        // A macro with arguments, or without a value, is no constant.
+        let Some((name, rest)) = line.strip_prefix("#define ").and_then(|d| d.split_once(' '))
+        else {
+            continue;
+        };
+        if name.contains('(') {
+            continue;
+        }
+        let value = match rest.split_whitespace().next() {
+            Some("UINT64_MAX") => Some(u64::MAX as usize),
+            number => number.and_then(|number| number.parse().ok()),
+        };
+        let value = value.unwrap_or_else(|| panic!("{name} is no number"));
+        assert!(defined.insert(name.to_string(), value).is_none(), "{name} is defined twice");
+    }
+    defined
 }
 
 #[test]
-fn a_listing_s_most_is_rattle_s() {
-    assert_eq!(Guard::LISTING_BYTES_MOST, listing_bytes_most());
+fn what_is_longest_is_rattle_s() {
+    assert_eq!(Guard::LISTING_BYTES_MOST, rattle("Report::TEXT"));
+    assert_eq!(calls::CARD_WORDS, value("1 + 2 * Limits::STATES"));
+}
+
+/// A length of work memory for each constant of Rattle's makers, and no other.
+#[test]
+fn every_work_length_is_rattle_s() {
+    let mut expected = BTreeMap::new();
+    for maker in ["Supervisor", "Guard", "Forecast"] {
+        let text = source_of(maker);
+        for name in text.split("pub const ").skip(1).filter_map(|rest| rest.split(':').next()) {
+            let length = rattle(&format!("{maker}::{name}"));
+            let before = expected.insert(format!("HZ_WORK_{name}"), length);
+            assert!(before.is_none_or(|before| before == length), "{name} has two lengths");
+        }
+    }
+    let mut defined = defined();
+    defined.retain(|name, _| name.starts_with("HZ_WORK_"));
+    assert_eq!(defined, expected);
 }
 
 #[test]
@@ -53,7 +116,13 @@ fn every_number_and_length_is_the_wrapper_s() {
         ("HZ_WORK_ARRIVALS", Work::ARRIVALS),
         ("HZ_WORK_ORDER", Work::ORDER),
         ("HZ_WORK_NUMBERS", Work::NUMBERS),
+        ("HZ_WORK_BESTS", Work::BESTS),
+        ("HZ_WORK_LEASTS", Work::LEASTS),
+        ("HZ_WORK_BEST_ARRIVALS", Work::BEST_ARRIVALS),
+        ("HZ_WORK_LEAST_ARRIVALS", Work::LEAST_ARRIVALS),
         ("HZ_FIGURES", calls::FIGURES),
+        ("HZ_CARD_WORDS", calls::CARD_WORDS),
+        ("HZ_LOST", calls::LOST as usize),
         ("HZ_BOARD_BYTES", calls::BOARD_BYTES),
     ]
     .map(|(name, value)| (name.to_string(), value))
@@ -61,22 +130,7 @@ fn every_number_and_length_is_the_wrapper_s() {
     for refusal in Refusal::NAMED {
         expected.insert(constant(&format!("{refusal:?}")), refusal.number() as usize);
     }
-
-    let mut defined = BTreeMap::new();
-    for line in source("c/hundlezoqa.h").lines() {
-        // A macro with arguments, or without a value, is no constant.
-        let Some((name, rest)) = line.strip_prefix("#define ").and_then(|d| d.split_once(' '))
-        else {
-            continue;
-        };
-        if name.contains('(') {
-            continue;
-        }
-        let value = rest.split_whitespace().next().and_then(|value| value.parse().ok());
-        let value: usize = value.unwrap_or_else(|| panic!("{name} is no number"));
-        assert!(defined.insert(name.to_string(), value).is_none(), "{name} is defined twice");
-    }
-    assert_eq!(defined, expected);
+    assert_eq!(defined(), expected);
 }
 
 /// A parameter of Rattle's as C has it: a slice is a pointer and a length.

@@ -1,13 +1,14 @@
 //! The reference against the paper's own words, on small sheets: which outputs are allowed by
-//! ways of answering n further inputs, and the guard's outputs by all plans written out, each with
-//! what it earns added over all words. Neither rounds nor values play a part.
+//! ways of answering n further inputs, the guard's outputs by all plans written out, and the
+//! forecast by all ways of answering H inputs, each with what it earns added over all words. Neither
+//! rounds nor values play a part.
 
 use std::collections::HashMap;
 
 use conformance::generate::{self, Shape};
 use conformance::{cases, seed, Random};
 use guard::sheet::{Mode, Role};
-use reference::{Board, Kept, Product, Sheet, Tuple};
+use reference::{Averages, Board, Kept, Product, Prospect, Sheet, Tuple};
 
 /// The most product states of a sheet that is tried: after as many inputs nothing changes.
 const STATES: usize = 40;
@@ -103,6 +104,49 @@ impl Game<'_> {
     }
 }
 
+/// The most ways of answering that are written out.
+const WAYS: usize = 5_000;
+
+/// The forecast's part.
+impl Game<'_> {
+    /// How many strings of 1 to H inputs there are, to each of which a way of answering gives an
+    /// output.
+    fn strings(&self) -> u32 {
+        let inputs = self.inputs().len();
+        (1..=u32::from(self.sheet.horizon)).map(|n| inputs.pow(n) as u32).sum()
+    }
+
+    /// The ways of answering H inputs, the outputs for shorter strings first; nothing if they are too
+    /// many.
+    fn ways(&self) -> Option<impl Iterator<Item = Vec<u8>>> {
+        let (outputs, strings) = (self.outputs().len(), self.strings());
+        let count = outputs.checked_pow(strings).filter(|&count| count <= WAYS)?;
+        let output = move |way: usize, string| (way / outputs.pow(string) % outputs) as u8;
+        Some((0..count).map(move |way| (0..strings).map(|string| output(way, string)).collect()))
+    }
+
+    /// What a way of answering earns over all words of H inputs, or nothing if one of its outputs is
+    /// not allowed.
+    fn earned_by_way(&mut self, at: Tuple, way: &[u8]) -> Option<u64> {
+        let inputs = self.inputs().len();
+        let horizon = u32::from(self.sheet.horizon);
+        let mut total = 0;
+        for word in 0..inputs.pow(horizon) {
+            // The strings of one length begin at `first`, and this one is `number` further on.
+            let (mut here, mut first, mut number) = (at, 0, 0);
+            for step in 0..horizon {
+                let input = word / inputs.pow(step) % inputs;
+                number = number * inputs + input;
+                let (next, reward) = self.allowed(here, input as u8, way[first + number])?;
+                total += reward;
+                here = next;
+                first += inputs.pow(step + 1);
+            }
+        }
+        Some(total)
+    }
+}
+
 /// A small sheet: at most one input line, so that the plans can be written out.
 fn small_sheet(random: &mut Random) -> Vec<u8> {
     let small = |shape: &Shape| shape.inputs() <= 1 && shape.outputs <= 2;
@@ -178,4 +222,43 @@ fn the_reference_follows_the_paper() {
     }
     println!("{accepted} accepted, {looking} of them looking ahead, {unrealizable} unrealizable");
     assert!(accepted > 100 && looking > 40 && unrealizable > 40, "too few sheets of a sort");
+}
+
+/// Every state's averages are the most and the least that a way of answering earns, over the number of
+/// words; and a state is lost exactly if some number of inputs is not survived.
+#[test]
+fn the_forecast_is_over_all_ways_of_answering() {
+    let (mut made, mut looking, mut losing) = (0, 0, 0);
+    for case in 0..cases(1_000) {
+        let bytes = small_sheet(&mut Random::new(!seed(), case));
+        let say = || format!("case {case} of seed {}: {bytes:02x?}", seed());
+        let sheet = Sheet::parse(&bytes).expect("in bounds");
+        let Ok(forecast) = reference::forecast(&bytes) else { continue };
+        let product = Product::explore(&sheet).expect("accepted");
+        let mut game = Game { sheet: &sheet, known: HashMap::new() };
+        let Some(ways) = game.ways().filter(|_| product.count() <= STATES) else { continue };
+        let ways: Vec<Vec<u8>> = ways.collect();
+        let words = (game.inputs().len() as f64).powi(sheet.horizon.into());
+        assert_eq!(forecast.len(), product.count(), "{}", say());
+        for (state, &prospect) in forecast.iter().enumerate() {
+            let at = *product.tuple(state);
+            let kept = game.survives(at, STATES);
+            let earned: Vec<u64> =
+                ways.iter().filter_map(|way| game.earned_by_way(at, way)).collect();
+            let average = |sum: Option<&u64>| *sum.expect("a kept state has a way") as f64 / words;
+            let expected = match kept {
+                false => Prospect::Lost,
+                true => Prospect::Worth(Averages {
+                    best: average(earned.iter().max()),
+                    least: average(earned.iter().min()),
+                }),
+            };
+            assert_eq!(prospect, expected, "state {state}, {}", say());
+        }
+        made += 1;
+        looking += u64::from(sheet.horizon > 1 && product.count() > 1);
+        losing += u64::from(forecast.contains(&Prospect::Lost));
+    }
+    println!("{made} made, {looking} of them over two steps or more, {losing} with lost states");
+    assert!(made > 300 && looking > 100 && losing > 40, "too few sheets of a sort");
 }

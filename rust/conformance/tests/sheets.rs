@@ -3,6 +3,7 @@
 
 use std::collections::BTreeMap;
 
+use conformance::work::{self, Slice};
 use conformance::{cases, generate, seed, subject, Random};
 use guard::{calls, Work};
 
@@ -10,41 +11,6 @@ const SHORT_WORK: u32 = reference::Refusal::ShortWork.number();
 
 /// Bytes on either side of the result memory that is lent.
 const MARGIN: usize = 32;
-
-/// The work slices that a maker is lent.
-const SUPERVISOR_SLICES: usize = 3;
-const GUARD_SLICES: usize = 9;
-
-/// Work memory full of anything, each slice longer than its constant by so much.
-fn any_work(random: &mut Random, beyond: usize) -> Work {
-    let mut work = Work::new();
-    let more = |random: &mut Random| if beyond == 0 { 0 } else { random.below(beyond) };
-    macro_rules! fill {
-        ($($slice:ident),*) => {$(
-            let length = work.$slice.len() + more(random);
-            work.$slice = (0..length).map(|_| random.number() as _).collect();
-        )*};
-    }
-    fill!(tuples, cells, dropped, gains, bonuses, values, arrivals, order, numbers);
-    work
-}
-
-/// Makes one slice shorter than its constant.
-fn shorten(work: &mut Work, slice: usize, random: &mut Random) {
-    macro_rules! shorten {
-        ($($number:literal $slice:ident $least:ident),*) => {
-            match slice {
-                $($number => {
-                    let short = if random.once_in(2) { 1 } else { 1 + random.below(Work::$least) };
-                    work.$slice.truncate(Work::$least - short);
-                })*
-                _ => unreachable!(),
-            }
-        };
-    }
-    shorten!(0 tuples TUPLES, 1 cells CELLS, 2 dropped DROPPED, 3 gains GAINS, 4 bonuses BONUSES,
-        5 values VALUES, 6 arrivals ARRIVALS, 7 order ORDER, 8 numbers NUMBERS);
-}
 
 /// Which of the two tables is made.
 #[derive(Clone, Copy, Debug)]
@@ -54,10 +20,11 @@ enum Kind {
 }
 
 impl Kind {
-    fn slices(self) -> usize {
+    /// The work memory that it is lent.
+    fn lent(self) -> &'static [Slice] {
         match self {
-            Kind::Supervisor => SUPERVISOR_SLICES,
-            Kind::Guard => GUARD_SLICES,
+            Kind::Supervisor => work::SUPERVISOR,
+            Kind::Guard => work::GUARD,
         }
     }
 
@@ -85,24 +52,6 @@ impl Kind {
         };
         (number, figures)
     }
-
-    /// The work memory must be clear after the call, and what was not lent as before it.
-    fn check_work(self, before: &Work, after: &Work) {
-        match self {
-            Kind::Guard => assert!(after.is_clear()),
-            Kind::Supervisor => {
-                assert!(after.is_clear_for_supervisor());
-                let unlent = |work: &Work| {
-                    let mut work = work.clone();
-                    work.tuples.clear();
-                    work.cells.clear();
-                    work.dropped.clear();
-                    work
-                };
-                assert_eq!(unlent(before), unlent(after));
-            }
-        }
-    }
 }
 
 /// One call on one sheet; answers the number.
@@ -120,11 +69,10 @@ fn compare(kind: Kind, sheet: &[u8], random: &mut Random) -> u32 {
     let mut memory = random.bytes(room + 2 * MARGIN);
     let mut expected = memory.clone();
     let lent = MARGIN..MARGIN + room;
-    let mut work = any_work(random, 40);
+    let mut work = work::any(random, 40);
     let short = random.once_in(8);
     if short {
-        let slice = random.below(kind.slices());
-        shorten(&mut work, slice, random);
+        work::shorten(&mut work, random.pick(kind.lent()), random);
     }
     let before = work.clone();
     let answer = if short {
@@ -137,7 +85,7 @@ fn compare(kind: Kind, sheet: &[u8], random: &mut Random) -> u32 {
     assert_eq!(found, answer, "{kind:?}");
     assert!(memory == expected, "{kind:?}: the result memory differs");
     assert!(read == sheet, "{kind:?}: the sheet was written");
-    kind.check_work(&before, &work);
+    work::check(kind.lent(), &before, &work);
     answer.0
 }
 
@@ -166,22 +114,22 @@ fn each_work_slice_has_its_own_bound() {
     let mut random = Random::new(seed(), 0);
     let sheet = generate::record(1, &[0, 1, 1, 0, 0, 0]);
     for kind in [Kind::Supervisor, Kind::Guard] {
-        for slice in 0..GUARD_SLICES {
+        for &slice in Slice::ALL {
             for sheet in [&sheet[..], &[]] {
-                let mut work = any_work(&mut random, 0);
-                shorten(&mut work, slice, &mut random);
+                let mut work = work::any(&mut random, 0);
+                work::shorten(&mut work, slice, &mut random);
                 let before = work.clone();
                 let mut result = vec![0xA5; 64];
                 let (number, figures) = kind.by_library(sheet, &mut result, &mut work);
                 let mut expected = vec![0xA5; 64];
-                let answer = if slice < kind.slices() {
+                let answer = if kind.lent().contains(&slice) {
                     (SHORT_WORK, [0; calls::FIGURES])
                 } else {
                     kind.by_reference(sheet, &mut expected)
                 };
-                assert_eq!((number, figures), answer, "{kind:?}, slice {slice}");
-                assert_eq!(result, expected, "{kind:?}, slice {slice}");
-                kind.check_work(&before, &work);
+                assert_eq!((number, figures), answer, "{kind:?}, {slice:?}");
+                assert_eq!(result, expected, "{kind:?}, {slice:?}");
+                work::check(kind.lent(), &before, &work);
             }
         }
     }
@@ -204,11 +152,12 @@ fn result_memory_of_every_length() {
             for kind in [Kind::Supervisor, Kind::Guard] {
                 let mut result = random.bytes(room);
                 let mut expected = result.clone();
-                let mut work = any_work(&mut random, 0);
+                let mut work = work::any(&mut random, 0);
+                let before = work.clone();
                 let answer = kind.by_reference(&sheet, &mut expected);
                 assert_eq!(kind.by_library(&sheet, &mut result, &mut work), answer);
                 assert_eq!(result, expected);
-                assert!(work.is_clear_for_supervisor());
+                work::check(kind.lent(), &before, &work);
             }
         }
     }

@@ -16,8 +16,10 @@ fn the_reference_agrees_with_the_repository_s_vectors() {
     assert_eq!((tally.differ, tally.passed_over), (0, 0));
 }
 
-/// A line that agrees: unloading an empty board is refused by 20, and the board is as it was.
-const AGREES: &str = "O 0 0,0,0,0,0,0,0,0 unload 52 20 0,0,0,0,0,0,0,0\n";
+/// A line of a level that agrees: unloading an empty board is refused by 20, and the board is as it was.
+fn agreeing(level: u32) -> String {
+    format!("O {level} 0,0,0,0,0,0,0,0 unload 52 20 0,0,0,0,0,0,0,0\n")
+}
 
 /// The runner's exit status and last line on a file.
 fn ran(file: &Path) -> (Option<i32>, String) {
@@ -35,11 +37,11 @@ fn ran_on(name: &str, text: &str) -> (Option<i32>, String) {
 
 #[test]
 fn a_file_in_which_nothing_is_compared_is_told_from_one_that_agrees() {
-    let later = AGREES.replace("O 0", "O 99");
-    let passed_over = AGREES.to_string() + &later;
-    let differs = AGREES.replace(" 20 ", " 21 ");
+    let (agrees, later) = (agreeing(vectors::LEVEL), agreeing(99));
+    let passed_over = agrees.clone() + &later;
+    let differs = agrees.replace(" 20 ", " 21 ");
     let said = |status, line: &str| (Some(status), line.to_string());
-    assert_eq!(ran_on("agrees", AGREES), said(0, "1 agree, 0 differ, 0 passed over"));
+    assert_eq!(ran_on("agrees", &agrees), said(0, "1 agree, 0 differ, 0 passed over"));
     assert_eq!(ran_on("some", &passed_over), said(0, "1 agree, 0 differ, 1 passed over"));
     assert_eq!(ran_on("differs", &differs), said(1, "0 agree, 1 differ, 0 passed over"));
     assert_eq!(ran_on("empty", ""), said(2, "0 agree, 0 differ, 0 passed over"));
