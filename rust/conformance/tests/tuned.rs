@@ -1,8 +1,9 @@
-//! Both makers of the tuned crate on many sheets, sound and damaged, against the reference:
-//! refusals, figures and every byte of the result memory.
+//! The makers of the tuned crate on many sheets, sound and damaged, against the reference: refusals,
+//! figures, every byte of the result memory, and every bit of a forecast.
 
 use std::collections::BTreeMap;
 
+use conformance::subject::card_of;
 use conformance::{cases, generate, seed, subject, Random};
 use reference::{Made, Refusal, GUARD_BYTES_MOST};
 
@@ -76,4 +77,19 @@ fn tuned_makers_refuse_short_memory_alike() {
             }
         }
     }
+}
+
+/// The card tells a negative 0 from 0.
+#[test]
+fn tuned_forecasts_agree() {
+    let mut seen: BTreeMap<u32, u64> = BTreeMap::new();
+    for case in 0..cases(20_000) {
+        let sheet = generate::any_sheet(&mut Random::new(seed(), case));
+        let (plain, tuned) = (reference::forecast(&sheet), tuned::forecast(&sheet));
+        assert_eq!(tuned.as_ref().err(), plain.as_ref().err(), "{sheet:02x?}");
+        assert_eq!(card_of(&tuned), card_of(&plain), "{sheet:02x?}");
+        *seen.entry(subject::number(&plain)).or_default() += 1;
+    }
+    println!("answers seen, by number: {seen:?}");
+    assert!((0..=8).all(|number| seen.get(&number).is_some_and(|&n| n >= 20)), "{seen:?}");
 }

@@ -1,4 +1,4 @@
-//! Both makers in safe Rust, written for speed.
+//! The makers in safe Rust, written for speed.
 //!
 //! Sheets are read by the crate `reference`, and refusals and figures are its; everything after
 //! the reading is made anew. A product state is one number, a step out of it is found for all
@@ -6,11 +6,12 @@
 
 #![forbid(unsafe_code)]
 
+mod forecast;
 mod plan;
 mod product;
 mod steps;
 
-use reference::{Made, Refusal, Sheet};
+use reference::{Made, Prospect, Refusal, Sheet};
 
 use crate::product::{Product, CELLS};
 
@@ -71,4 +72,10 @@ pub fn make_guard(sheet: &[u8], result: &mut [u8]) -> Result<Made, Refusal> {
         row[4..].copy_from_slice(entries.as_flattened());
     }
     Ok(made)
+}
+
+/// The prospect of each product state of a sheet, as the reference tells it.
+pub fn forecast(sheet: &[u8]) -> Result<Vec<Prospect>, Refusal> {
+    let (sheet, product, kept) = solve(sheet)?;
+    Ok(forecast::forecast(&sheet, &product, &kept))
 }
