@@ -1,6 +1,6 @@
 //! How the time of a guard grows with the number of states.
 
-use crate::makers::GUARD;
+use crate::makers::{Maker, GUARD};
 use crate::sheets;
 use crate::timing::{ratio, Effort, Runs, COLUMNS};
 

@@ -2,41 +2,60 @@
 
 use std::hint::black_box;
 
-use conformance::subject;
+use conformance::subject::{self, card_of};
 use guard::{calls, Work};
 use reference::{Made, Refusal, GUARD_BYTES_MOST};
 
 use crate::timing::{compare, Effort, Times};
 
+/// What is made of a sheet, by all three.
+pub trait Maker {
+    fn name(&self) -> &'static str;
+
+    /// Panics unless all three answer the same for the sheet.
+    fn check(&self, sheet: &[u8]);
+
+    /// One run over the sheets, one after the other as one call.
+    fn time(&self, effort: Effort, sheets: &[Vec<u8>]) -> Times;
+}
+
+/// What the tables are made by.
+pub const TABLES: &[&dyn Maker] = &[&SUPERVISOR, &GUARD];
+/// The same and the forecast's.
+pub const ALL: &[&dyn Maker] = &[&SUPERVISOR, &GUARD, &Forecast];
+
 type ByLibrary = fn(&[u8], &mut [u8], &mut Work, &mut [u64; calls::FIGURES]) -> u32;
 type InRust = fn(&[u8], &mut [u8]) -> Result<Made, Refusal>;
 
 /// The makers of one kind of table.
-#[derive(Clone, Copy)]
-pub struct Maker {
-    pub name: &'static str,
+pub struct Table {
+    name: &'static str,
     rattle: ByLibrary,
     plain: InRust,
     tuned: InRust,
 }
 
-pub const SUPERVISOR: Maker = Maker {
+const SUPERVISOR: Table = Table {
     name: "supervisor",
     rattle: calls::make_supervisor,
     plain: reference::make_supervisor,
     tuned: tuned::make_supervisor,
 };
 
-pub const GUARD: Maker = Maker {
+pub const GUARD: Table = Table {
     name: "guard",
     rattle: calls::make_guard,
     plain: reference::make_guard,
     tuned: tuned::make_guard,
 };
 
-impl Maker {
-    /// Panics unless all three answer the same for the sheet and leave the same result memory.
-    pub fn check(&self, sheet: &[u8]) {
+impl Maker for Table {
+    fn name(&self) -> &'static str {
+        self.name
+    }
+
+    /// The result memory must be the same too.
+    fn check(&self, sheet: &[u8]) {
         let mut expected = vec![0xA5; GUARD_BYTES_MOST];
         let mut result = expected.clone();
         let answer = (self.plain)(sheet, &mut expected);
@@ -52,28 +71,57 @@ impl Maker {
         }
     }
 
-    /// One run over the sheets, one after the other as one call.
-    pub fn time(&self, effort: Effort, sheets: &[Vec<u8>]) -> Times {
+    fn time(&self, effort: Effort, sheets: &[Vec<u8>]) -> Times {
         let mut results = [(); 3].map(|()| vec![0; GUARD_BYTES_MOST]);
         let [by_rattle, by_plain, by_tuned] = &mut results;
         let mut work = Work::new();
         let mut figures = [0; calls::FIGURES];
         compare(
             effort,
-            || {
-                for sheet in sheets {
-                    black_box((self.rattle)(sheet, by_rattle, &mut work, &mut figures));
-                }
-            },
-            || all(self.plain, sheets, by_plain),
-            Some(|| all(self.tuned, sheets, by_tuned)),
+            || each(sheets, |sheet| (self.rattle)(sheet, by_rattle, &mut work, &mut figures)),
+            || each(sheets, |sheet| (self.plain)(sheet, by_plain)),
+            Some(|| each(sheets, |sheet| (self.tuned)(sheet, by_tuned))),
         )
     }
 }
 
-/// Makes all the tables in Rust.
-fn all(make: InRust, sheets: &[Vec<u8>], result: &mut [u8]) {
+/// The makers of forecast cards.
+pub struct Forecast;
+
+impl Maker for Forecast {
+    fn name(&self) -> &'static str {
+        "forecast"
+    }
+
+    fn check(&self, sheet: &[u8]) {
+        let answer = reference::forecast(sheet);
+        let card = card_of(&answer);
+        let tuned = tuned::forecast(sheet);
+        assert_eq!(subject::number(&tuned), subject::number(&answer), "forecast by tuned");
+        assert!(card_of(&tuned) == card, "forecast by tuned: the card differs");
+        if guard::LINKED {
+            let mut found = [0; calls::CARD_WORDS];
+            let number = calls::forecast(sheet, &mut Work::new(), &mut found);
+            assert_eq!(number, subject::number(&answer), "forecast");
+            assert!(found == card, "forecast: the card differs");
+        }
+    }
+
+    fn time(&self, effort: Effort, sheets: &[Vec<u8>]) -> Times {
+        let mut work = Work::new();
+        let mut card = [0; calls::CARD_WORDS];
+        compare(
+            effort,
+            || each(sheets, |sheet| calls::forecast(sheet, &mut work, &mut card)),
+            || each(sheets, reference::forecast),
+            Some(|| each(sheets, tuned::forecast)),
+        )
+    }
+}
+
+/// Makes something of every sheet.
+fn each<T>(sheets: &[Vec<u8>], mut make: impl FnMut(&[u8]) -> T) {
     for sheet in sheets {
-        let _ = black_box(make(sheet, result));
+        black_box(make(sheet));
     }
 }

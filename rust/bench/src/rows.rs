@@ -3,18 +3,18 @@
 use conformance::{generate, Random};
 use reference::{Kept, Product, Refusal, Sheet, GUARD_BYTES_MOST};
 
-use crate::makers::{Maker, GUARD, SUPERVISOR};
+use crate::makers::{Maker, ALL, TABLES};
 use crate::sheets;
 use crate::timing::{Effort, Runs, COLUMNS};
 
 /// The width of all that stands before the times.
 pub const WIDTH: usize = 66;
 
-/// One sheet, or several made one after the other, with the times of both makers.
+/// One sheet, or several made one after the other, with the times of each maker.
 pub struct Row {
     name: String,
     sheets: Vec<Vec<u8>>,
-    makers: [(Maker, Runs); 2],
+    makers: Vec<(&'static dyn Maker, Runs)>,
 }
 
 /// Rows that belong together.
@@ -24,24 +24,33 @@ pub struct Group {
 }
 
 impl Row {
-    fn new(name: impl Into<String>, sheets: Vec<Vec<u8>>) -> Row {
-        let makers = [SUPERVISOR, GUARD].map(|maker| (maker, Runs::default()));
-        Row { name: name.into(), sheets, makers }
+    fn new(name: &str, sheets: Vec<Vec<u8>>, makers: &[&'static dyn Maker]) -> Row {
+        let makers = makers.iter().map(|&maker| (maker, Runs::default())).collect();
+        Row { name: name.to_string(), sheets, makers }
     }
 
     fn print(&self) {
         let mut before = format!("{:<24} {}", self.name, size(&self.sheets));
         for (maker, runs) in &self.makers {
-            println!("{:<width$} {:<10} {runs}", before, maker.name, width = WIDTH - 11);
+            println!("{:<width$} {:<10} {runs}", before, maker.name(), width = WIDTH - 11);
             before.clear();
         }
     }
 }
 
 impl Group {
+    /// Rows with the times of both tables.
     fn new(name: &'static str, rows: Vec<(String, Vec<u8>)>) -> Group {
-        let rows = rows.into_iter().map(|(name, sheet)| Row::new(name, vec![sheet])).collect();
-        Group { name, rows }
+        Group::by(TABLES, name, rows)
+    }
+
+    fn by(
+        makers: &[&'static dyn Maker],
+        name: &'static str,
+        rows: Vec<(String, Vec<u8>)>,
+    ) -> Group {
+        let row = |(name, sheet): (String, _)| Row::new(&name, vec![sheet], makers);
+        Group { name, rows: rows.into_iter().map(row).collect() }
     }
 
     pub fn check(&self) {
@@ -103,7 +112,7 @@ fn general() -> Group {
         ("full, shield", sheets::shield_with(2, 2, 6, 2, 2, 3)),
         ("chain", sheets::chain()),
     ];
-    Group::new("general", rows.map(named).into())
+    Group::by(ALL, "general", rows.map(named).into())
 }
 
 fn named((name, sheet): (&str, Vec<u8>)) -> (String, Vec<u8>) {
@@ -135,7 +144,8 @@ fn refused() -> Group {
     let generated = (0..).map(|case| generate::sheet(&mut Random::new(1, case)));
     let refused =
         generated.filter(|sheet| reference::guard_table(sheet) == Err(Refusal::TooManyStates));
-    group.rows.push(Row::new("20 generated, together", refused.take(20).collect()));
+    let refused = refused.take(20).collect();
+    group.rows.push(Row::new("20 generated, together", refused, TABLES));
     group
 }
 
