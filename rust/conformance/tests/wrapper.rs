@@ -1,8 +1,8 @@
-//! The safe interface against the reference: the tables read entry by entry, the refusals by their
-//! numbers, and a board's run.
+//! The safe interface against the reference: the tables and the forecast read entry by entry, the
+//! refusals by their numbers, and a board's run.
 
 use conformance::{cases, generate, seed, subject, Random};
-use guard::{Board, Guard, Refusal, Supervisor, Work};
+use guard::{Board, Forecast, Guard, Refusal, Supervisor, Work};
 use reference::{Kept, Mode, Product, Sheet, Values};
 
 /// Where the reference refuses a sheet, the wrapper gives the same number.
@@ -38,6 +38,40 @@ fn check_guard(made: &Guard, sheet: &Sheet, product: &Product, kept: &Kept, valu
             let (output, next) = made.entry(state, input);
             let chosen = values.choice(product, kept, place, input.into());
             assert_eq!(chosen, Some((output, *places[next].get_or_insert(chosen.unwrap().1))));
+        }
+    }
+}
+
+/// The averages of an entry, by bits; nothing where it is lost.
+fn bits(prospect: reference::Prospect) -> Option<[u64; 2]> {
+    match prospect {
+        reference::Prospect::Lost => None,
+        reference::Prospect::Worth(averages) => {
+            Some([averages.best, averages.least].map(f64::to_bits))
+        }
+    }
+}
+
+fn check_forecast(made: &Forecast, found: &[reference::Prospect]) {
+    assert_eq!((made.count(), made.get(made.count())), (found.len(), None));
+    assert!(made.iter().eq(made));
+    for (state, (prospect, &found)) in made.iter().zip(found).enumerate() {
+        let averages = prospect.averages();
+        assert_eq!(averages.map(|a| [a.best, a.least].map(f64::to_bits)), bits(found));
+        assert_eq!(made.get(state), Some(*prospect));
+    }
+}
+
+#[test]
+#[cfg_attr(not(guard_library), ignore = "needs the library: rt staticlib hundlezoqa_c")]
+fn forecasts_are_read_as_they_are_meant() {
+    let mut work = Work::new();
+    for case in 0..cases(2_000) {
+        let bytes = generate::any_sheet(&mut Random::new(seed(), case));
+        let made = Forecast::make(&bytes, &mut work);
+        match reference::forecast(&bytes) {
+            Ok(found) => check_forecast(&made.expect("accepted"), &found),
+            Err(refusal) => refused(made, refusal.number()),
         }
     }
 }
