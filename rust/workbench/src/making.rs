@@ -1,6 +1,6 @@
-//! Tables by the proved library, from sheets or as they were stored.
+//! Tables and forecasts by the proved library, from sheets or as they were stored.
 
-use guard::{Guard, Refusal, Supervisor, Work};
+use guard::{Forecast, Guard, Refusal, Supervisor, Work};
 
 use crate::bench::{Bench, Outcome, Stop};
 use crate::source::Source;
@@ -26,6 +26,12 @@ pub fn guard(source: &Source, bench: &mut Bench) -> Result<Guard, Stop> {
 /// The supervisor of a sheet; a refusal is said.
 pub fn supervisor(source: &Source, bench: &mut Bench) -> Result<Supervisor, Stop> {
     Supervisor::make(&source.bytes, &mut Work::new())
+        .map_err(|refusal| refuse(refusal, source, bench))
+}
+
+/// The forecast of a sheet; a refusal is said.
+pub fn forecast(source: &Source, bench: &mut Bench) -> Result<Forecast, Stop> {
+    Forecast::make(&source.bytes, &mut Work::new())
         .map_err(|refusal| refuse(refusal, source, bench))
 }
 

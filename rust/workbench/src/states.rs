@@ -52,6 +52,22 @@ impl States {
         (own, all.iter().filter(copied).map(&mut place).collect())
     }
 
+    /// The monitors' states in order; those of the copies in brackets.
+    pub fn label(&self, state: usize) -> Vec<String> {
+        self.in_order(state, |place| place.state)
+    }
+
+    /// The monitors' names in that order.
+    pub fn heads(&self) -> Vec<String> {
+        self.in_order(0, |place| place.monitor)
+    }
+
+    fn in_order(&self, state: usize, word: fn(MonitorState) -> &str) -> Vec<String> {
+        let (monitors, copies) = self.monitors(state);
+        let own = monitors.into_iter().map(|place| word(place).to_string());
+        own.chain(copies.into_iter().map(|place| format!("({})", word(place)))).collect()
+    }
+
     /// The product state of each guard state: the guard's outputs are followed from the start, and
     /// every way must lead to the same one.
     pub fn of_guard(&self, guard: &Guard) -> Option<Vec<usize>> {

@@ -81,7 +81,7 @@ fn guard_labels(
     let places = states.as_ref().and_then(|states| states.of_guard(guard));
     match (states, places) {
         (Some(states), Some(places)) => {
-            Ok(places.into_iter().map(|place| label(&states, place)).collect())
+            Ok(places.into_iter().map(|place| states.label(place)).collect())
         }
         _ => Err(bench.differs()),
     }
@@ -94,7 +94,7 @@ fn supervisor_graph(source: &Source, bench: &mut Bench) -> Result<(Graph, Names,
     };
     let edges = supervisor_edges(&supervisor, &states);
     let drawn = (0..supervisor.states())
-        .map(|state| (label(&states, state), !supervisor.is_kept(state)))
+        .map(|state| (states.label(state), !supervisor.is_kept(state)))
         .collect();
     let graph = Graph { name: "supervisor", states: drawn, edges };
     Ok((graph, states.named.names.clone(), states.named.sheet.mode))
@@ -115,13 +115,6 @@ fn supervisor_edges(supervisor: &Supervisor, states: &States) -> Edges {
         }
     }
     edges
-}
-
-/// The monitors' states; copies in brackets.
-fn label(states: &States, state: usize) -> Vec<String> {
-    let (monitors, copies) = states.monitors(state);
-    let own = monitors.into_iter().map(|place| place.state.to_string());
-    own.chain(copies.into_iter().map(|place| format!("({})", place.state))).collect()
 }
 
 fn write_graph(graph: &Graph, names: &Names, mode: Mode, bench: &mut Bench) -> Outcome {

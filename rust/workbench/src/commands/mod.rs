@@ -3,6 +3,7 @@
 mod check;
 mod compile;
 mod dot;
+mod forecast;
 mod list;
 mod make;
 mod run;
@@ -36,6 +37,7 @@ pub const COMMANDS: &[Command] = &[
     check::COMMAND,
     list::COMMAND,
     supervisor::COMMAND,
+    forecast::COMMAND,
     make::COMMAND,
     dot::COMMAND,
     run::COMMAND,
