@@ -1,4 +1,5 @@
-//! docs/SHEETS.md: its sheets compile as those of the repository, and its taps are answered as it says.
+//! docs/SHEETS.md and README.md: their sheets compile as those of the repository, their taps are
+//! answered and their cards forecast as they say.
 
 mod common;
 
@@ -75,6 +76,20 @@ fn the_examples_are_as_told() {
             let deviates = deviations.as_ref().is_none_or(|told| found.ends_with(told));
             assert!(deviates, "{name}, {input}: {found}");
         }
+    }
+}
+
+/// Sheet A's card is told where its sheet is.
+#[test]
+#[cfg_attr(not(guard_library), ignore = "needs the library: rt staticlib hundlezoqa_c")]
+fn the_cards_are_as_told() {
+    let told = [("docs/SHEETS.md", "### A tray lock"), ("README.md", "## How to write a sheet")];
+    let card = guard(&["forecast", &sheet("A.sheet")], b"").text();
+    for (file, heading) in told {
+        let document = std::fs::read_to_string(repository(file)).expect("there");
+        let blocks = blocks(section(&document, heading));
+        let shown = blocks.iter().find(|block| block.starts_with("average")).expect("a card");
+        assert_eq!(shown.trim_end(), card.trim_end(), "{file}");
     }
 }
 
