@@ -4,6 +4,7 @@
 use std::collections::BTreeMap;
 
 use conformance::{cases, generate, seed, Library, Random, Subject};
+use guard::calls::CARD_WORDS;
 use reference::{Fault, Refusal, Sheet, GUARD_BYTES_MOST};
 
 const RECORD_HEADER: usize = 4;
@@ -40,7 +41,7 @@ fn bounds(sheet: &[u8], record: usize) -> (usize, usize) {
     (start, end(start))
 }
 
-/// Both makers answer the fault's number, and none of 1 to 6 where there is none.
+/// Every maker answers the fault's number, and none of 1 to 6 where there is none.
 #[test]
 #[cfg_attr(not(guard_library), ignore = "needs the library: rt staticlib hundlezoqa_c")]
 fn refusals_are_the_librarys() {
@@ -52,9 +53,10 @@ fn refusals_are_the_librarys() {
         let made = [
             library.make_supervisor(&sheet, &mut result).0,
             library.make_guard(&sheet, &mut result).0,
+            library.forecast(&sheet, &mut [0; CARD_WORDS]),
         ];
         let sheet_fault = |made| if (1..=6).contains(&made) { made } else { 0 };
-        assert_eq!(made.map(sheet_fault), [number; 2], "case {case} of seed {}", seed());
+        assert_eq!(made.map(sheet_fault), [number; 3], "case {case} of seed {}", seed());
         *seen.entry(number).or_default() += 1;
     }
     println!("faults seen, by number: {seen:?}");
