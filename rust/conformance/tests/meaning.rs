@@ -145,6 +145,19 @@ impl Game<'_> {
         }
         Some(total)
     }
+
+    /// What the card must say of a point: the most and the least that a way earns, over the number of
+    /// words; lost if some number of inputs is not survived.
+    fn prospect(&mut self, at: Tuple, ways: &[Vec<u8>]) -> Prospect {
+        if !self.survives(at, STATES) {
+            return Prospect::Lost;
+        }
+        let earned: Vec<u64> = ways.iter().filter_map(|way| self.earned_by_way(at, way)).collect();
+        let words = (self.inputs().len() as f64).powi(self.sheet.horizon.into());
+        let average = |sum: Option<&u64>| *sum.expect("a kept state has a way") as f64 / words;
+        let (best, least) = (average(earned.iter().max()), average(earned.iter().min()));
+        Prospect::Worth(Averages { best, least })
+    }
 }
 
 /// A small sheet: at most one input line, so that the plans can be written out.
@@ -224,8 +237,6 @@ fn the_reference_follows_the_paper() {
     assert!(accepted > 100 && looking > 40 && unrealizable > 40, "too few sheets of a sort");
 }
 
-/// Every state's averages are the most and the least that a way of answering earns, over the number of
-/// words; and a state is lost exactly if some number of inputs is not survived.
 #[test]
 fn the_forecast_is_over_all_ways_of_answering() {
     let (mut made, mut looking, mut losing) = (0, 0, 0);
@@ -238,21 +249,9 @@ fn the_forecast_is_over_all_ways_of_answering() {
         let mut game = Game { sheet: &sheet, known: HashMap::new() };
         let Some(ways) = game.ways().filter(|_| product.count() <= STATES) else { continue };
         let ways: Vec<Vec<u8>> = ways.collect();
-        let words = (game.inputs().len() as f64).powi(sheet.horizon.into());
         assert_eq!(forecast.len(), product.count(), "{}", say());
         for (state, &prospect) in forecast.iter().enumerate() {
-            let at = *product.tuple(state);
-            let kept = game.survives(at, STATES);
-            let earned: Vec<u64> =
-                ways.iter().filter_map(|way| game.earned_by_way(at, way)).collect();
-            let average = |sum: Option<&u64>| *sum.expect("a kept state has a way") as f64 / words;
-            let expected = match kept {
-                false => Prospect::Lost,
-                true => Prospect::Worth(Averages {
-                    best: average(earned.iter().max()),
-                    least: average(earned.iter().min()),
-                }),
-            };
+            let expected = game.prospect(*product.tuple(state), &ways);
             assert_eq!(prospect, expected, "state {state}, {}", say());
         }
         made += 1;
