@@ -66,8 +66,8 @@ extern "C" {
 #define HZ_WORK_NUMBERS 256        /* uint16_t; guard */
 #define HZ_WORK_BESTS 256          /* uint64_t; forecast */
 #define HZ_WORK_LEASTS 256         /* uint64_t; forecast */
-#define HZ_WORK_BEST_ARRIVALS 256  /* uint64_t; forecast */
-#define HZ_WORK_LEAST_ARRIVALS 256 /* uint64_t; forecast */
+#define HZ_WORK_HIGHS 256  /* uint64_t; forecast */
+#define HZ_WORK_LOWS 256 /* uint64_t; forecast */
 
 /* The figures that the makers report, in elements; hz_list reports one. */
 
@@ -137,8 +137,8 @@ uint32_t hz_forecast(const uint8_t *sheet, size_t sheet_len,
                      uint16_t *bonuses, size_t bonuses_len,
                      uint64_t *bests, size_t bests_len,
                      uint64_t *leasts, size_t leasts_len,
-                     uint64_t *best_arrivals, size_t best_arrivals_len,
-                     uint64_t *least_arrivals, size_t least_arrivals_len,
+                     uint64_t *highs, size_t highs_len,
+                     uint64_t *lows, size_t lows_len,
                      uint64_t *card, size_t card_len);
 
 /* The calls on a board: board_len MUST be exactly HZ_BOARD_BYTES. A refused call changes no byte of the board. A table's length is

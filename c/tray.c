@@ -35,8 +35,8 @@ static uint16_t order[HZ_WORK_ORDER];
 static uint16_t numbers[HZ_WORK_NUMBERS];
 static uint64_t bests[HZ_WORK_BESTS];
 static uint64_t leasts[HZ_WORK_LEASTS];
-static uint64_t best_arrivals[HZ_WORK_BEST_ARRIVALS];
-static uint64_t least_arrivals[HZ_WORK_LEAST_ARRIVALS];
+static uint64_t highs[HZ_WORK_HIGHS];
+static uint64_t lows[HZ_WORK_LOWS];
 
 /* Says that a call was refused, and answers whether it was. */
 static int refused(const char *call, uint32_t number)
@@ -68,7 +68,7 @@ static uint32_t forecast(void)
 
     answer = hz_forecast(sheet, LENGTH(sheet), tuples, LENGTH(tuples), cells, LENGTH(cells), dropped, LENGTH(dropped),
                          gains, LENGTH(gains), bonuses, LENGTH(bonuses), bests, LENGTH(bests), leasts, LENGTH(leasts),
-                         best_arrivals, LENGTH(best_arrivals), least_arrivals, LENGTH(least_arrivals),
+                         highs, LENGTH(highs), lows, LENGTH(lows),
                          card, LENGTH(card));
     for (k = 0; k < card[0]; k++) /* refused: none */
         if (card[1 + 2 * k] == HZ_LOST)

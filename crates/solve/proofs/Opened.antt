@@ -108,6 +108,7 @@ module _ {ok : Bool} {s : List ℕ} where
       record {
         long = long;
         fits = layout;
+        same = same accepted;
         solution = subst (λ (b : Bool). Solution (decoded s (x .sheet)) n kept b tuples cells dropped) e solution;
         answers = λ table counts {before} {r} {after} judges.
             answers-judged table counts ok s before long x reads accepted r after judges;

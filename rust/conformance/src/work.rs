@@ -60,8 +60,8 @@ slices! {
     Numbers numbers NUMBERS,
     Bests bests BESTS,
     Leasts leasts LEASTS,
-    BestArrivals best_arrivals BEST_ARRIVALS,
-    LeastArrivals least_arrivals LEAST_ARRIVALS,
+    BestArrivals highs HIGHS,
+    LeastArrivals lows LOWS,
 }
 
 /// What the making of a supervisor is lent.

@@ -75,8 +75,8 @@ library! {
         bonuses: *mut u16, bonuses_len: usize,
         bests: *mut u64, bests_len: usize,
         leasts: *mut u64, leasts_len: usize,
-        best_arrivals: *mut u64, best_arrivals_len: usize,
-        least_arrivals: *mut u64, least_arrivals_len: usize,
+        highs: *mut u64, highs_len: usize,
+        lows: *mut u64, lows_len: usize,
         card: *mut u64, card_len: usize,
     ) -> u32;
     fn hz_load(board: *mut u8, board_len: usize, table: *const u8, table_len: usize) -> u32;
@@ -191,10 +191,10 @@ pub fn forecast<const WORDS: usize>(sheet: &[u8], work: &mut Work, card: &mut [u
             work.bests.len(),
             work.leasts.as_mut_ptr(),
             work.leasts.len(),
-            work.best_arrivals.as_mut_ptr(),
-            work.best_arrivals.len(),
-            work.least_arrivals.as_mut_ptr(),
-            work.least_arrivals.len(),
+            work.highs.as_mut_ptr(),
+            work.highs.len(),
+            work.lows.as_mut_ptr(),
+            work.lows.len(),
             card.as_mut_ptr(),
             card.len(),
         )

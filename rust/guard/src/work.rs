@@ -36,9 +36,9 @@ pub struct Work {
     /// The sum behind its least.
     pub leasts: Vec<u64>,
     /// What arriving in each product state earns and is worth at best.
-    pub best_arrivals: Vec<u64>,
+    pub highs: Vec<u64>,
     /// What it is worth at least.
-    pub least_arrivals: Vec<u64>,
+    pub lows: Vec<u64>,
 }
 
 /// The least lengths, in elements.
@@ -55,8 +55,8 @@ impl Work {
     pub const NUMBERS: usize = STATES_MOST;
     pub const BESTS: usize = STATES_MOST;
     pub const LEASTS: usize = STATES_MOST;
-    pub const BEST_ARRIVALS: usize = STATES_MOST;
-    pub const LEAST_ARRIVALS: usize = STATES_MOST;
+    pub const HIGHS: usize = STATES_MOST;
+    pub const LOWS: usize = STATES_MOST;
 }
 
 impl Work {
@@ -74,8 +74,8 @@ impl Work {
             numbers: vec![0; Work::NUMBERS],
             bests: vec![0; Work::BESTS],
             leasts: vec![0; Work::LEASTS],
-            best_arrivals: vec![0; Work::BEST_ARRIVALS],
-            least_arrivals: vec![0; Work::LEAST_ARRIVALS],
+            highs: vec![0; Work::HIGHS],
+            lows: vec![0; Work::LOWS],
         }
     }
 
@@ -87,8 +87,8 @@ impl Work {
             &self.arrivals,
             &self.bests,
             &self.leasts,
-            &self.best_arrivals,
-            &self.least_arrivals,
+            &self.highs,
+            &self.lows,
         ];
         let halves =
             [&self.cells, &self.dropped, &self.gains, &self.bonuses, &self.order, &self.numbers];
@@ -106,7 +106,7 @@ impl Default for Work {
 // Document 01's bound on the bytes of one call's work memory; those of all calls together keep it.
 const _: () = assert!(
     8 * (Work::TUPLES + Work::VALUES + Work::ARRIVALS)
-        + 8 * (Work::BESTS + Work::LEASTS + Work::BEST_ARRIVALS + Work::LEAST_ARRIVALS)
+        + 8 * (Work::BESTS + Work::LEASTS + Work::HIGHS + Work::LOWS)
         + 2 * (Work::CELLS + Work::DROPPED + Work::GAINS + Work::BONUSES)
         + 2 * (Work::ORDER + Work::NUMBERS)
         <= 65_536

@@ -94,11 +94,15 @@ module _ (d : Decoded) (ok : SheetOk d) where
 
     -- ---- the card
 
-    -- the entry of product state k
+    -- the averages of product state k, where it is kept
+    abbrev averages : ℕ → Averages
+    averages k =
+        averagesOf (bestAt d (d .horizon) (stateOf d k)) (leastAt d (d .horizon) (stateOf d k)) (inputsOf d ^ d .horizon)
+
+    -- its entry
     module _ (k : ℕ) (low : k < stateCount d) where
       said : averagesIn (saysOf (forecastCard d) k)
-          ≡ cond (isIn (droppedOf d) k)
-          (some (averagesOf (bestAt d (d .horizon) (stateOf d k)) (leastAt d (d .horizon) (stateOf d k)) (inputsOf d ^ d .horizon))) none
+          ≡ cond (isIn (droppedOf d) k) (some (averages k)) none
       unfolding forecastCard entryAt bestsOf leastsOf isIn
       said =
           ap (λ (e : Entry). averagesIn (e .prospect))
@@ -106,7 +110,7 @@ module _ (d : Decoded) (ok : SheetOk d) where
           ∙ entry-averages _ _ _ _
           ∙ rw (
             getD-tab (stateCount d) (λ j. bestAt d (d .horizon) (stateOf d j)) k 0 low,
-            getD-tab (stateCount d) (λ j. leastAt d (d .horizon) (stateOf d j)) k 0 low
+            getD-tab (stateCount d) (λ j. leastAt d (d .horizon) (stateOf d j)) k 0 low,
           )
 
       number : numberOf d (stateOf d k) ≡ k
@@ -119,17 +123,17 @@ module _ (d : Decoded) (ok : SheetOk d) where
       lost-is = rw number at (out-iff d fits (stateOf d k) (state-reached d k low))
 
       lost-said : (averagesIn (saysOf (forecastCard d) k) ≡ none) ↔ Lost d (stateOf d k)
-      lost-said = (λ e. lost-is .0 (absent (isIn (droppedOf d) k) (sym said ∙ e)), λ l. said ∙ rw (lost-is .1 l))
+      lost-said = (λ e. lost-is .0 (absent (isIn (droppedOf d) k) _ (sym said ∙ e)), λ l. said ∙ rw (lost-is .1 l))
         where
-          absent : (b : Bool) {a : Averages} → cond b (some a) none ≡ none → b ≡ false
-          absent true e = absurd (cc)
-          absent false e = refl
+          absent : (b : Bool) (a : Averages) → cond b (some a) none ≡ none → b ≡ false
+          absent true a e = absurd (let z : _≡_ {A = ℕ} 0 1 = cc in omega arith)
+          absent false a e = refl
 
       worth-said : Kept d (stateOf d k)
           → (a : Averages) × (averagesIn (saysOf (forecastCard d) k) ≡ some a)
           × WorthOf d (d .horizon) (stateOf d k) (bestAt d (d .horizon) (stateOf d k)) (leastAt d (d .horizon) (stateOf d k)) a
       worth-said kept =
-          (_, said ∙ rw (kept-is .1 kept), worth-of (stateOf d k) (record { reached = state-reached d k low; kept = kept }))
+          (averages k, said ∙ rw (kept-is .1 kept), worth-of (stateOf d k) (record { reached = state-reached d k low; kept = kept }))
 
     foretells : Foretells d (forecastCard d)
     unfolding forecastCard stateCount stateOf

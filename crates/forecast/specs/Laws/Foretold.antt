@@ -67,9 +67,9 @@ module _
     most = p .solution .numbering .most
 
     -- the row of either figure, at a state
-    row-at : {pick : Pick} (memory : List ℕ) {row : List ℕ} → row ≡ put memory n (tableValue pick game (sheet .horizon))
+    row-at : (pick : Pick) (memory : List ℕ) {row : List ℕ} → row ≡ put memory n (tableValue pick game (sheet .horizon))
         → maxStates ≤ length memory → (k : ℕ) → k < n → getD row k 0 ≡ tableValue pick game (sheet .horizon) k
-    row-at memory e room k h = rw e (getD-put-front memory n _ k 0 h (omega (arith, most)))
+    row-at pick memory e room k h = rw e (getD-put-front memory n _ k 0 h (omega (arith, most)))
 
     -- the sums can be averaged
     pub card-worked : Worked dropped bests leasts words n
@@ -82,9 +82,9 @@ module _
           bests-held = rw (best-row, length-put) (omega (arith, most));
           leasts-held = rw (least-row, length-put) (omega (arith, most));
           summed = λ k h. record {
-            best-most = rw (row-at bests₀ best-row bests-room k h) (omega (arith, best-bound sized (sheet .horizon) (far .0) (far .1) k h));
+            best-most = rw (row-at top bests₀ best-row bests-room k h) (omega (arith, best-bound sized (sheet .horizon) (far .0) (far .1) k h));
             least-most =
-                rw (row-at leasts₀ least-row leasts-room k h) (omega (arith, least-bound sized (sheet .horizon) (far .0) (far .1) k h));
+                rw (row-at bottom leasts₀ least-row leasts-room k h) (omega (arith, least-bound sized (sheet .horizon) (far .0) (far .1) k h));
             words-least = rw counted (one-le-pow (sheet .horizon) ins some);
             words-most = rw counted (omega (arith, far .1));
           };
@@ -95,14 +95,14 @@ module _
         → row ≡ put memory n (tableValue pick game (sheet .horizon)) → maxStates ≤ length memory
         → (k : ℕ) → k < n → eqb (getD (droppedOf d) k 0) 0 ≡ true → getD row k 0 ≡ sumAt pick d (d .horizon) (stateOf d k)
     unfolding tableValue isIn
-    kept-sum x memory e room k h kept =
+    kept-sum {pick = pick} x memory e room k h kept =
         let here : eqb (getD dropped k 0) 0 ≡ true = rw (p .solution .rounds k h) kept in
         let number : KeptNumber d k = record { low = omega (arith, p .solution .numbering .counted); kept = kept } in
-        row-at memory e room k h
+        row-at pick memory e room k h
         ∙ rw here
         (stored-sum d (few (p .solution)) n game
         (plan-stored fits p ins outs is-inputs is-outputs gains₀ bonuses₀ earned matched gains-room bonuses-room) x (sheet .horizon) k number)
-        ∙ ap (λ (h : ℕ). sumAt _ d h (stateOf d k)) (own-horizon s sheet)
+        ∙ ap (λ (h : ℕ). sumAt pick d h (stateOf d k)) (own-horizon s sheet)
 
     -- so the card is the sheet's
     pub card-is : cardOf dropped bests leasts words n ≡ forecastCard d
@@ -121,7 +121,12 @@ module _
             rw (p .solution .rounds k h)
             (by-test (eqb (getD (droppedOf d) k 0) 0)
             (λ kept.
-            rw (words-are, kept-sum largest bests₀ best-row bests-room k h kept, kept-sum smallest leasts₀ least-row leasts-room k h kept,
-            best-is, getD-tab (stateCount d) (λ j. bestAt d (d .horizon) (stateOf d j)) k 0 low,
-            getD-tab (stateCount d) (λ j. leastAt d (d .horizon) (stateOf d j)) k 0 low))
+            rw (
+              words-are,
+              kept-sum largest bests₀ best-row bests-room k h kept,
+              kept-sum smallest leasts₀ least-row leasts-room k h kept,
+              best-is,
+              getD-tab (stateCount d) (λ j. bestAt d (d .horizon) (stateOf d j)) k 0 low,
+              getD-tab (stateCount d) (λ j. leastAt d (d .horizon) (stateOf d j)) k 0 low,
+            ))
             (λ lost. entry-lost _ _ _ _ lost ∙ sym (entry-lost _ _ _ _ lost)))

@@ -1,6 +1,6 @@
 -- The sums that the rounds leave are those of the sheet's game, they are what ways of answering earn, and they are at most 2^53.
 -- Assumes nothing.
-use mathlib.Core.Path.{_≡_, sym, ap, _∙_, subst₂}
+use mathlib.Core.Path.{_≡_, sym, ap, fun-ext, _∙_, subst, subst₂}
 use mathlib.Core.Logic.{_↔_}
 use mathlib.Core.Bool.{true, cond}
 use mathlib.Core.List.{List}
@@ -151,7 +151,7 @@ best-sums-by d fits =
             sym (best-is d (suc p) t) ∙ m .1,
             λ i hi.
                 subst (λ (f : ℕ → ℕ). Extremal AtMost (λ o. (o < outputsOf d) × Allowed d t i o) f (m .0 i))
-                (funExt (λ o. ap (λ (v : ℕ). reward d t i o * inputsOf d ^ p + v) (best-is d p (advance d t i o)))) (m .2 i hi),
+                (fun-ext (λ o. ap (λ (v : ℕ). reward d t i o * inputsOf d ^ p + v) (best-is d p (advance d t i o)))) (m .2 i hi),
           );
     }
 

@@ -27,6 +27,8 @@ use Rattle.solve.specs.declared.opening.Opening.{Opening}
 pub record Opened (ok : Bool) (s : List ℕ) (sheet : Sheet) (n kept : ℕ) (tuples cells dropped : List ℕ) : Type 0 where
   pub long : ok ≡ true
   pub fits : Fits s sheet
+  -- the sheet that is solved is the one that the bytes stand for
+  pub same : decoded s sheet ≡ sheetOf s
   pub solution : Solution (decoded s sheet) n kept true tuples cells dropped
   pub answers : (table : Decoded → List ℕ) (stateCounts : Decoded → ℕ) {before : List ℕ} {r : Made} {after : List ℕ}
       → Judges table stateCounts (decoded s sheet) before r after → Answers table stateCounts ok s before r after

@@ -1,0 +1,78 @@
+-- The answers of the maker: the opening's refusals, and the card of a sheet that was opened; and its work memory.
+-- Assumes nothing.
+use mathlib.Core.Path.{_≡_, sym, ap, _∙_}
+use mathlib.Core.Bool.{Bool, true, false}
+use mathlib.Core.List.{List, [], _∷_}
+use Prim.Native.Nat.{ℕ}
+use native.Mathlib.Omega.{arith}
+use lib.Dec.{eqb}
+use lib.ListN.{length}
+use borrow.Author.Tests.{ne-eqb}
+use Rattle.records.specs.Meaning.Work.{longEnough}
+use Rattle.records.specs.Laws.Work.{Long, long-enough}
+use Rattle.sheet.specs.Meaning.Grounds.{groundNumber, verdictNumber}
+use Rattle.sheet.specs.Laws.Grounds.{some-number}
+use Rattle.sheet.specs.Model.Where.{decoded}
+use Rattle.sheet.specs.declared.layout.Sheet.{Sheet}
+use Rattle.sheet.specs.declared.layout.Refusal.{Refusal}
+use Rattle.sheet.specs.declared.layout.Verdict.{Verdict}
+use Rattle.sheet.specs.declared.layout.Verdict.the-variants.{Accepted, Refused}
+use Rattle.solve.specs.Model.Making.{sheetOf}
+use Rattle.solve.specs.Model.Opening.{openingNumber, OpenAnswer}
+use Rattle.card.specs.Model.Card.{lostCard}
+use Rattle.card.specs.declared.Card.{Card}
+use Rattle.forecast.specs.Model.Forecast.{forecastCard, Room}
+use Rattle.forecast.specs.Model.Forecasting.{Answers}
+use Rattle.forecast.specs.Promises.Forecast.{forecastWork}
+
+module _ {ok : Bool} {s : List ℕ} {v : Verdict} {n kept : ℕ} (opening : OpenAnswer ok s v n kept) where
+  -- a refusal
+  pub answers-refused : {g : Refusal} {card : Card} → v ≡ Refused g → card ≡ lostCard
+      → Answers ok s (record { verdict = Refused g; card = card })
+  answers-refused {g} e lost =
+      let n = some-number g in
+      let off : eqb (groundNumber g) 0 ≡ false = ne-eqb (groundNumber g) 0 (λ z. omega (arith, n .1)) in
+      record { number = sym (ap verdictNumber e) ∙ opening .number; card-is = lost ∙ rw off }
+
+  -- a card
+  pub answers-made : (sheet : Sheet) {card : Card} → v ≡ Accepted → decoded s sheet ≡ sheetOf s → card ≡ forecastCard (decoded s sheet)
+      → Answers ok s (record { verdict = Accepted; card = card })
+  answers-made sheet e same made =
+      record { number = sym (ap verdictNumber e) ∙ opening .number; card-is = made ∙ ap forecastCard same }
+
+-- ---- work memory
+
+-- the slices' lengths in turn
+abbrev pub lengths : (tuples cells dropped gains bonuses bests leasts highs lows : List ℕ) → List ℕ
+lengths tuples cells dropped gains bonuses bests leasts highs lows =
+    length tuples
+    ∷ length cells
+    ∷ length dropped
+    ∷ length gains
+    ∷ length bonuses
+    ∷ length bests
+    ∷ length leasts
+    ∷ length highs
+    ∷ length lows
+    ∷ []
+
+pub work-room : (tuples cells dropped gains bonuses bests leasts highs lows : List ℕ)
+    → longEnough forecastWork (lengths tuples cells dropped gains bonuses bests leasts highs lows) ≡ true
+    → Room tuples cells dropped gains bonuses bests leasts highs lows
+unfolding Long
+work-room tuples cells dropped gains bonuses bests leasts highs lows e =
+    let opening = long-enough forecastWork (lengths tuples cells dropped gains bonuses bests leasts highs lows) e in
+    let earned = opening .1 .1 .1 in
+    let summed = earned .1 .1 in
+    let arrived = summed .1 .1 in
+    record {
+      tuples-long = opening .0;
+      cells-long = opening .1 .0;
+      dropped-long = opening .1 .1 .0;
+      gains-long = earned .0;
+      bonuses-long = earned .1 .0;
+      bests-long = summed .0;
+      leasts-long = summed .1 .0;
+      highs-long = arrived .0;
+      lows-long = arrived .1 .0;
+    }
