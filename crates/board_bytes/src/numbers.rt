@@ -2,6 +2,7 @@
 use board::answers::Change;
 use board::answers::Load;
 use board::answers::Step;
+use sheet::layout::Verdict;
 use solve::made::Made;
 ghost use mathlib.Core.Path.{_≡_};
 ghost use Prim.Native.Nat.{_≤_};
@@ -10,6 +11,7 @@ ghost use lib.Seq.{sets};
 ghost use Rattle.board.specs.Meaning.Board.{changeNumber};
 ghost use Rattle.board.specs.Meaning.Load.{loadNumber};
 ghost use Rattle.board.specs.Meaning.BoardStep.{stepNumber};
+ghost use Rattle.sheet.specs.Meaning.Grounds.{verdictNumber};
 ghost use Rattle.solve.specs.Meaning.Made.{madeNumber, madeLength, madeStates};
 ghost use Rattle.board_bytes.specs.Promises.ByteCalls.{stepAnswer, figuresOf};
 
@@ -54,6 +56,15 @@ pub fn change_number(answer: Change) -> u32
     match answer {
         Change::Done => 0,
         Change::Empty => 20,
+    }
+}
+
+pub fn verdict_number(verdict: Verdict) -> u32
+    ensures { λ r. ⌜ r ≡ verdictNumber verdict ⌝ }
+{
+    match verdict {
+        Verdict::Accepted => 0,
+        Verdict::Refused(ground) => ground.number() as u32,
     }
 }
 

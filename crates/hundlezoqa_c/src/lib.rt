@@ -1,6 +1,9 @@
 // The public calls for programs in other languages: each is one call of a crate below, and its promise is that call's.
-// A slice crosses as a pointer and a length, a board as its 16 bytes, an answer as document 01's number.
+// A slice crosses as a pointer and a length, a board as its 16 bytes, a card as 513 words, an answer as document 01's number.
 use board_bytes::numbers::report;
+use board_bytes::numbers::verdict_number;
+use card_words::write_card;
+use forecast::make::Forecast;
 use guard::make::Guard;
 use report::Report;
 use supervisor::make::Supervisor;
@@ -11,7 +14,8 @@ ghost use lib.ListN.{length};
 ghost use Rattle.records.specs.Meaning.Numbers.{zeros};
 ghost use Rattle.board_bytes.specs.Meaning.BoardBytes.{boardLength};
 ghost use Rattle.board_bytes.specs.Promises.ByteCalls.{LoadCall, StepCall, RewindCall, UnloadCall};
-ghost use Rattle.hundlezoqa_c.specs.Promises.Library.{ReportsSupervisor, ReportsGuard, ReportsListing};
+ghost use Rattle.card_words.specs.Meaning.CardWords.{cardLength};
+ghost use Rattle.hundlezoqa_c.specs.Promises.Library.{ReportsSupervisor, ReportsGuard, ReportsForecast, ReportsListing};
 
 // Makes a supervisor table.
 #[no_mangle]
@@ -83,6 +87,54 @@ pub extern "C" fn hz_make_guard(
         numbers,
     );
     report(made, figures)
+}
+
+// Makes a forecast card, in words.
+#[no_mangle]
+pub extern "C" fn hz_forecast(
+    sheet: &[u8],
+    tuples: &mut [u64],
+    cells: &mut [u16],
+    dropped: &mut [u16],
+    gains: &mut [u16],
+    bonuses: &mut [u16],
+    bests: &mut [u64],
+    leasts: &mut [u64],
+    highs: &mut [u64],
+    lows: &mut [u64],
+    card: &mut [u64],
+) -> u32
+    requires { ⌜ cardLength ≤ length (now card) ⌝ }
+    ensures made { λ r. ⌜
+        ReportsForecast (now (sheet .entry))
+        (length (now (tuples .entry)) ∷ length (now (cells .entry)) ∷ length (now (dropped .entry)) ∷ length (now (gains .entry)) ∷
+        length (now (bonuses .entry)) ∷ length (now (bests .entry)) ∷ length (now (leasts .entry)) ∷
+        length (now (highs .entry)) ∷ length (now (lows .entry)) ∷ []) r (now (card .entry)) (now (card .exit)) ⌝ }
+    ensures tuples { λ _. ⌜ now (tuples .exit) ≡ zeros (length (now (tuples .entry))) ⌝ }
+    ensures cells { λ _. ⌜ now (cells .exit) ≡ zeros (length (now (cells .entry))) ⌝ }
+    ensures dropped { λ _. ⌜ now (dropped .exit) ≡ zeros (length (now (dropped .entry))) ⌝ }
+    ensures gains { λ _. ⌜ now (gains .exit) ≡ zeros (length (now (gains .entry))) ⌝ }
+    ensures bonuses { λ _. ⌜ now (bonuses .exit) ≡ zeros (length (now (bonuses .entry))) ⌝ }
+    ensures bests { λ _. ⌜ now (bests .exit) ≡ zeros (length (now (bests .entry))) ⌝ }
+    ensures leasts { λ _. ⌜ now (leasts .exit) ≡ zeros (length (now (leasts .entry))) ⌝ }
+    ensures highs { λ _. ⌜ now (highs .exit) ≡ zeros (length (now (highs .entry))) ⌝ }
+    ensures lows { λ _. ⌜ now (lows .exit) ≡ zeros (length (now (lows .entry))) ⌝ }
+{
+    let made = Forecast::make(
+        sheet,
+        tuples,
+        cells,
+        dropped,
+        gains,
+        bonuses,
+        bests,
+        leasts,
+        highs,
+        lows,
+    );
+    write_card(made.card, card);
+    let verdict = made.verdict;
+    verdict_number(verdict)
 }
 
 // Loads a table.

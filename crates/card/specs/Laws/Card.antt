@@ -81,10 +81,10 @@ module _ (dropped bests leasts : List ℕ) (words n : ℕ) where
   card-length = length-put lostEntries n _ ∙ lost-places
 
   -- the entry of each state
-  pub card-at : n ≤ maxStates → (s : ℕ) → s < n
+  pub card-at : (s : ℕ) → s < n → s < maxStates
       → getD (cardOf dropped bests leasts words n .entries) s lostEntry ≡ entryAt dropped bests leasts words s
   unfolding cardOf
-  card-at few s h = getD-put-front lostEntries n (entryAt dropped bests leasts words) s lostEntry h (omega (arith, lost-places))
+  card-at s h l = getD-put-front lostEntries n (entryAt dropped bests leasts words) s lostEntry h (omega (arith, lost-places))
 
   -- and lost past them
   pub card-past : (s : ℕ) → n ≤ s → getD (cardOf dropped bests leasts words n .entries) s lostEntry ≡ lostEntry

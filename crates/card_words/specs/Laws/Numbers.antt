@@ -2,7 +2,7 @@
 -- Assumes nothing.
 use mathlib.Core.Path.{_≡_, sym, subst}
 use mathlib.Core.List.{List}
-use Prim.Native.Nat.{ℕ, _≤_}
+use Prim.Native.Nat.{ℕ}
 use native.Mathlib.Decide.{decLt}
 use native.Mathlib.Omega.{arith}
 use lib.Dec.{eqb}
@@ -40,12 +40,12 @@ entry-number round best least words =
 pub lost-numbers : Numbers (lostCard .entries)
 lost-numbers = record { each = λ s h. same-number (lost-at s) tt }
 
-pub card-numbers : (dropped bests leasts : List ℕ) (words n : ℕ) → n ≤ maxStates → Numbers (cardOf dropped bests leasts words n .entries)
+pub card-numbers : (dropped bests leasts : List ℕ) (words n : ℕ) → Numbers (cardOf dropped bests leasts words n .entries)
 unfolding entryAt
-card-numbers dropped bests leasts words n few =
+card-numbers dropped bests leasts words n =
     record {
       each = λ s h. elim (decLt s n) [
-        | yes l ↦ same-number (card-at dropped bests leasts words n few s l) (entry-number _ _ _ _)
+        | yes l ↦ same-number (card-at dropped bests leasts words n s l h) (entry-number _ _ _ _)
         | no l ↦ same-number (card-past dropped bests leasts words n s (omega arith)) tt
       ];
     }

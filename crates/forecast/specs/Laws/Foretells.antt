@@ -106,7 +106,7 @@ module _ (d : Decoded) (ok : SheetOk d) where
       unfolding forecastCard entryAt bestsOf leastsOf isIn
       said =
           ap (λ (e : Entry). averagesIn (e .prospect))
-          (card-at (droppedOf d) (bestsOf d) (leastsOf d) (inputsOf d ^ d .horizon) (stateCount d) fits k low)
+          (card-at (droppedOf d) (bestsOf d) (leastsOf d) (inputsOf d ^ d .horizon) (stateCount d) k low (omega arith))
           ∙ entry-averages _ _ _ _
           ∙ rw (
             getD-tab (stateCount d) (λ j. bestAt d (d .horizon) (stateOf d j)) k 0 low,

@@ -1,4 +1,4 @@
--- What the makers and the listing promise to programs in other languages: an answer as the call below promises it, reported by
+-- What the makers, the forecast and the listing promise to programs in other languages: an answer as the call below promises it, reported by
 -- number and figures. The board's calls promise what crate `board_bytes` does.
 -- Assumes nothing.
 use mathlib.Core.Path.{_≡_}
@@ -7,6 +7,10 @@ use Prim.Native.Nat.{ℕ}
 use lib.Seq.{sets}
 use Rattle.guard_table.specs.Meaning.Loadable.{loadable}
 use Rattle.listing_text.specs.Meaning.Listing.{listingOf}
+use Rattle.card_words.specs.Meaning.CardWords.{cardWords}
+use Rattle.forecast.specs.Promises.Forecast.{MakesForecast}
+use Rattle.forecast.specs.declared.making.Forecasting.{Forecasting}
+use Rattle.sheet.specs.Meaning.Grounds.{verdictNumber}
 use Rattle.report.specs.Promises.Report.{listedNumber, listedLength, Writes}
 use Rattle.report.specs.declared.Listed.{Listed}
 use Rattle.supervisor.specs.Promises.SupervisorMaker.{MakesSupervisor}
@@ -19,6 +23,13 @@ ReportsSupervisor s before lent after = Reports (λ made. MakesSupervisor s befo
 
 abbrev pub ReportsGuard : List ℕ → List ℕ → List ℕ → List ℕ → ℕ → List ℕ → List ℕ → Type 0
 ReportsGuard s before lent after = Reports (λ made. MakesGuard s before lent made after)
+
+-- the forecast card of the sheet s, in words, then the old rest
+pub record ReportsForecast (s lent : List ℕ) (r : ℕ) (old new : List ℕ) : Type 0 where
+  pub made : Forecasting
+  pub promised : MakesForecast s lent made
+  pub number : r ≡ verdictNumber (made .verdict)
+  pub words : new ≡ sets old 0 (cardWords (made .card))
 
 -- the listing of the table t; `before` and `after` are the text memory, the one figure is the length of the text
 pub record ReportsListing (t before after : List ℕ) (r : ℕ) (old new : List ℕ) : Type 0 where
