@@ -5,8 +5,8 @@ use mathlib.Core.List.{List, [], _∷_}
 use Rattle.sheet.specs.Meaning.Decoded.{encode}
 use Rattle.notebook.specs.Model.Sheets.{decodedA, sheetA, sheet3, sheet4, sheet5, sheet6, sheet7, sheet9, sheet10, idle, limitSheet, letterSheet}
 use Rattle.notebook.specs.Model.Row.{Row, is, are, ordered, AllHold, all-hold}
-use Rattle.notebook.specs.Model.Figures.{supervisorNumber, guardAnswer, supervisor, guard, states, scores, outputs, deviationsShown}
-use Rattle.notebook.specs.Laws.Opened.{sheets, supervisors, guards, boards}
+use Rattle.notebook.specs.Model.Figures.{supervisorNumber, guardAnswer, forecastNumber, bestSums, leastSums, cardFront, supervisor, guard, states, scores, outputs, deviationsShown}
+use Rattle.notebook.specs.Laws.Opened.{sheets, supervisors, guards, forecasts, boards}
 
 abbrev pub rows : List Row
 rows =
@@ -32,9 +32,23 @@ rows =
     -- P2: A, state 0: input 0 scores off 12, on 3; input 1 off 6, on 9
     ∷ are (scores sheetA 0 0) (12 ∷ 3 ∷ [])
     ∷ are (scores sheetA 0 1) (6 ∷ 9 ∷ [])
+    -- A's forecast over its one step: in 0 and 1 at best 3 at each input and at least 0, in 2 and 3 only off: 3 at input 0, 0 at input 1;
+    -- averages 3.0 and 0.0, then 1.5 both
+    ∷ is (forecastNumber sheetA) 0
+    ∷ are (bestSums sheetA) (6 ∷ 6 ∷ 3 ∷ 3 ∷ [])
+    ∷ are (leastSums sheetA) (0 ∷ 0 ∷ 3 ∷ 3 ∷ [])
+    ∷ are (cardFront 5 sheetA)
+    (4
+    ∷ 0x4008_0000_0000_0000 ∷ 0
+    ∷ 0x4008_0000_0000_0000 ∷ 0
+    ∷ 0x3ff8_0000_0000_0000 ∷ 0x3ff8_0000_0000_0000
+    ∷ 0x3ff8_0000_0000_0000 ∷ 0x3ff8_0000_0000_0000
+    ∷ 0xffff_ffff_ffff_ffff ∷ 0xffff_ffff_ffff_ffff
+    ∷ [])
     -- P3: A plus hard "input on, so output on": refused 8
     ∷ is (supervisorNumber sheet3) 8
     ∷ is (guardAnswer sheet3) 8
+    ∷ is (forecastNumber sheet3) 8
     -- P4: head alone, one line each way, on preferred: one state, mask 3, output 1
     ∷ is (supervisorNumber sheet4) 0
     ∷ is (guardAnswer sheet4) 0
@@ -54,6 +68,8 @@ rows =
     ∷ 4 ∷ 0 ∷ 17 ∷ 0 ∷ 0 ∷ 0 ∷ 0 ∷ 0
     ∷ 4 ∷ 0 ∷ 17 ∷ 0 ∷ 0 ∷ 0 ∷ 0 ∷ 0
     ∷ [])
+    -- over no steps nothing is earned
+    ∷ are (cardFront 1 (sheet6 0)) (states (sheet6 0) ∷ 0 ∷ 0 ∷ [])
     -- off at H = 1 (7 against 6)
     ∷ is (supervisorNumber (sheet6 1)) 0
     ∷ is (guardAnswer (sheet6 1)) 0
@@ -130,5 +146,5 @@ rows =
 
 -- each row's test succeeds, by computation
 pub every-row-holds : AllHold rows
-unfolding sheets supervisors guards boards
+unfolding sheets supervisors guards forecasts boards
 every-row-holds = all-hold rows refl

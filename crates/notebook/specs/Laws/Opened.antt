@@ -22,7 +22,7 @@ use Rattle.sheet.specs.Model.Reader.{takeRecord, onFound, readRecords, firstFou
 use Rattle.sheet.specs.Meaning.Refusals.{headNumber, monitorNumber, recordsNumber, sheetNumber}
 use Rattle.sheet.specs.Model.Where.{automaton, decoded}
 use Rattle.game.specs.Meaning.Proposal.{proposal, differs, deviates}
-use Rattle.product.specs.Meaning.Step.{siteLetter, nextState, accepts, shadowed, shadowMoved, sound, limitLetter, letterOf, monitorMoved, moved, advance, broken, firstTuple, line, equalLines, softReward}
+use Rattle.product.specs.Meaning.Step.{siteLetter, nextState, accepts, shadowed, shadowMoved, sound, limitLetter, letterOf, monitorMoved, moved, advance, broken, firstTuple, line, equalLines, softReward, rewardBy, reward}
 use Rattle.product.specs.Model.Stages.{matchReward}
 use Rattle.product.specs.Model.States.{same}
 use Rattle.product.specs.Model.ProductNumbering.{statesAfter, productStates, stateCount, stateOf, numberOf, cellOf}
@@ -45,7 +45,17 @@ use Rattle.board.specs.Meaning.Load.{boardOf, loadOn}
 use Rattle.board.specs.Meaning.BoardStep as board
 use Rattle.board.specs.Meaning.BoardStep.{entryFits, lookedUp, stepOn}
 use Rattle.notebook.specs.Model.Row.{isAbove, isOrdered, test, tests}
-use Rattle.notebook.specs.Model.Figures.{scoresOf, outputsFrom, boardFrom, outputs, deviationsShown}
+use Rattle.game.specs.Model.Rounds.{keeps, keptAfter, may}
+use Rattle.game.specs.Model.Value.{value}
+use Rattle.game.specs.Model.Extreme.{bottom, valueBy}
+use Rattle.solve.specs.Model.Opening.{openingNumber}
+use Rattle.averages.specs.Meaning.Averages.{averageOf}
+use Rattle.card.specs.Model.Card as card
+use Rattle.card.specs.Model.Card.{averagesOf, entryOf, lostEntries, lostCard, cardOf}
+use Rattle.card_words.specs.Meaning.CardWords.{entryWords, cardWords}
+use Rattle.forecast.specs.Model.Forecast.{bestsOf, leastsOf, forecastCard}
+use lib.Ieee as float
+use Rattle.notebook.specs.Model.Figures.{cardFront, scoresOf, outputsFrom, boardFrom, outputs, deviationsShown}
 
 -- lists and numbers
 unfoldable pub lists : Unit {0}
@@ -76,6 +86,12 @@ unfolding supervisors scoresOf line equalLines softReward gainsOf matchReward bo
     mayGive values.cellNext earns scoreOf worth valueRow valuesOf choiceOf choices choicesOf chosen follows guardStates guardNumber
     guardOf guardCount outputOf guard.nextOf guardRow guardTable guardOver guardTableBy
 guards = tt
+
+-- sums, averages and the forecast card
+unfoldable pub forecasts : Unit {0}
+unfolding guards openingNumber rewardBy reward keeps keptAfter may value bottom valueBy bestsOf leastsOf averageOf float.round float.toBits averagesOf entryOf card.entryAt
+    lostEntries lostCard cardOf forecastCard entryWords cardWords cardFront
+forecasts = tt
 
 -- load and step
 unfoldable pub boards : Unit {0}

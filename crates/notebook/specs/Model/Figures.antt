@@ -2,7 +2,8 @@
 -- Assumes nothing.
 use mathlib.Core.Bool.{true}
 use mathlib.Core.List.{List, [], _∷_}
-use Prim.Native.Nat.{ℕ, _^_}
+use Prim.Native.Nat.{ℕ, _+_, _*_, _^_}
+use lib.ListN.{take}
 use Rattle.records.specs.Meaning.Lists.{tab}
 use Rattle.guard_table.specs.Model.Inside.{tableMost}
 use Rattle.sheet.specs.Meaning.Decoded.{Decoded}
@@ -15,6 +16,9 @@ use Rattle.board.specs.Meaning.BoardStep.{stepOn, stepOutput}
 use Rattle.board.specs.declared.Board.{Board}
 use Rattle.supervisor.specs.Model.SupervisorOfSheet.{supervisorTable}
 use Rattle.solve.specs.Model.Making.{sheetOf, makingNumber}
+use Rattle.solve.specs.Model.Opening.{openingNumber}
+use Rattle.card_words.specs.Meaning.CardWords.{cardWords}
+use Rattle.forecast.specs.Model.Forecast.{bestsOf, leastsOf, forecastCard}
 use Rattle.plan.specs.Model.GuardOfSheet.{sheetGame, valuesOf, guardTableOf}
 
 -- ---- the makers
@@ -36,6 +40,23 @@ supervisor sheet = supervisorTable (sheetOf sheet)
 
 abbrev pub guard : List ℕ → List ℕ
 guard sheet = guardTableOf (sheetOf sheet)
+
+-- ---- the forecast
+
+-- its number, with enough work memory
+abbrev pub forecastNumber : List ℕ → ℕ
+forecastNumber sheet = openingNumber true sheet
+
+-- the whole sums of the product states, at best and at least
+abbrev pub bestSums : List ℕ → List ℕ
+bestSums sheet = bestsOf (sheetOf sheet)
+
+abbrev pub leastSums : List ℕ → List ℕ
+leastSums sheet = leastsOf (sheetOf sheet)
+
+-- the card's first words: the count, then for n states the bits of the best and of the least average
+unfoldable pub cardFront : ℕ → List ℕ → List ℕ
+cardFront n sheet = take (1 + 2 * n) (cardWords (forecastCard (sheetOf sheet)))
 
 -- ---- what the tables are made from
 
