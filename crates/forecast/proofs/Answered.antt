@@ -18,7 +18,7 @@ use Rattle.sheet.specs.declared.layout.Refusal.{Refusal}
 use Rattle.sheet.specs.declared.layout.Verdict.{Verdict}
 use Rattle.sheet.specs.declared.layout.Verdict.the-variants.{Accepted, Refused}
 use Rattle.solve.specs.Model.Making.{sheetOf}
-use Rattle.solve.specs.Model.Opening.{openingNumber, OpenAnswer}
+use Rattle.solve.specs.Model.Opening.{OpenAnswer}
 use Rattle.card.specs.Model.Card.{lostCard}
 use Rattle.card.specs.declared.Card.{Card}
 use Rattle.forecast.specs.Model.Forecast.{forecastCard, Room}

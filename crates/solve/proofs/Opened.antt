@@ -13,7 +13,6 @@ use Rattle.sheet.specs.Meaning.Decoded.{Decoded}
 use Rattle.sheet.specs.Meaning.Grounds.{groundNumber, verdictNumber}
 use Rattle.sheet.specs.Meaning.Refusals.{sheetNumber}
 use Rattle.sheet.specs.Laws.Grounds.{some-number}
-use Rattle.sheet.specs.Model.Reader.{reading}
 use Rattle.sheet.specs.Model.Where.{Fits, decoded}
 use Rattle.sheet.specs.Promises.Reader.{Reads}
 use Rattle.sheet.specs.declared.layout.Reading.{Reading}
@@ -24,7 +23,7 @@ use Rattle.product.specs.Model.ProductNumbering.{stateCount}
 use Rattle.rounds.specs.Model.TableRounds.{isIn, keptCount}
 use Rattle.solve.specs.Model.Steps.{droppedOf}
 use Rattle.solve.specs.Model.Solve.{Solution}
-use Rattle.solve.specs.Model.Making.{sheetOf, manyNumber, lostNumber, Judges, Answers}
+use Rattle.solve.specs.Model.Making.{sheetOf, manyNumber, lostNumber}
 use Rattle.solve.specs.Model.Opening.{Opened, Refuses, openingNumber, OpenAnswer}
 use Rattle.solve.specs.Laws.Solving.{numbering-fits}
 use Rattle.solve.specs.Laws.Judging.{judges-many, judges-lost, answers-short, answers-refused, answers-judged}

@@ -6,7 +6,6 @@ use Prim.Native.Nat.{ℕ}
 use native.Mathlib.Decide.{decLt}
 use native.Mathlib.Omega.{arith}
 use lib.Dec.{eqb}
-use Rattle.records.specs.Meaning.Limits.{maxStates}
 use Rattle.records.specs.Laws.Tests.{by-test}
 use Rattle.averages.specs.Meaning.Averages.{Exactly}
 use Rattle.averages.specs.Laws.Averages.{average-number, exact-number}

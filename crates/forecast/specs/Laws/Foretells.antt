@@ -3,27 +3,24 @@
 use mathlib.Core.Path.{_≡_, refl, sym, ap, _∙_, subst}
 use mathlib.Core.Logic.{_↔_}
 use mathlib.Core.Bool.{Bool, true, false, cond}
-use mathlib.Core.Option.{Option, none, some}
+use mathlib.Core.Option.{none, some}
 use mathlib.Core.List.{List}
-use Prim.Native.Nat.{ℕ, zero, suc, _*_, _^_, _≤_, _<_}
+use Prim.Native.Nat.{ℕ, zero, _*_, _^_, _≤_, _<_}
 use native.Mathlib.Omega.{arith}
 use lib.Dec.{eqb}
-use lib.Ieee.{Float}
-use lib.ListN.{length, getD}
+use lib.ListN.{length}
 use lib.Pow.{pow-pos}
 use borrow.Author.Tests.{eq-eqb, ne-eqb}
 use Rattle.records.specs.Meaning.Limits.{maxStates}
 use Rattle.records.specs.Meaning.Numbers.{Bytes}
 use Rattle.records.specs.Meaning.Work.{longEnough, askedBytes}
 use Rattle.records.specs.Laws.Lists.{getD-tab}
-use Rattle.records.specs.Laws.Tests.{both-ways}
-use Rattle.game.specs.Model.Value.{value}
 use Rattle.game.specs.Laws.Extreme.{largest, smallest, value-by-none}
 use Rattle.game.specs.Laws.Value.{value-none}
 use Rattle.sheet.specs.Meaning.Decoded.{Decoded, SheetOk, inputLines}
 use Rattle.sheet.specs.Meaning.Grounds.{verdictNumber}
 use Rattle.sheet.specs.Laws.Reading.{only-sheet}
-use Rattle.product.specs.Meaning.Step.{inputsOf, outputsOf, advance, reward, firstTuple}
+use Rattle.product.specs.Meaning.Step.{inputsOf, outputsOf, advance, reward}
 use Rattle.product.specs.Model.ProductNumbering.{productStates, stateCount, stateOf, numberOf}
 use Rattle.product.specs.Laws.ProductNumbering.{state-number, state-reached}
 use Rattle.product.specs.Laws.Ordered.{product-states}
@@ -38,13 +35,13 @@ use Rattle.plan.specs.Model.Playing.{mayAt, bestAt}
 use Rattle.plan.specs.Laws.Solved.{pow-pow}
 use Rattle.averages.specs.Meaning.Averages.{averageOf}
 use Rattle.averages.specs.Laws.Averages.{exactly, zero-bits}
-use Rattle.card.specs.Meaning.Card.{averagesIn, lostEntry}
-use Rattle.card.specs.Model.Card.{averagesOf, entryOf, entryAt, lostCard, cardOf}
+use Rattle.card.specs.Meaning.Card.{averagesIn}
+use Rattle.card.specs.Model.Card.{averagesOf, entryAt, lostCard}
 use Rattle.card.specs.Laws.Card.{entry-averages, card-count, card-length, card-at, card-past, lost-at, lost-length, lost-count}
 use Rattle.card.specs.declared.Averages.{Averages}
 use Rattle.card.specs.declared.Card.{Card}
 use Rattle.card.specs.declared.Entry.{Entry}
-use Rattle.forecast.specs.Meaning.Forecast.{KeptState, AverageOf, WorthOf, BestSums, LeastSums, MostEarned}
+use Rattle.forecast.specs.Meaning.Forecast.{KeptState, AverageOf, WorthOf, MostEarned}
 use Rattle.forecast.specs.Model.Forecast.{leastAt, bestsOf, leastsOf, forecastCard}
 use Rattle.forecast.specs.Model.Forecasting.{Answers}
 use Rattle.forecast.specs.Laws.Sums.{sum-earned, sums-by, best-sums-by, best-is, least-best, best-most, least-sum-most}

@@ -1,21 +1,21 @@
 -- The card that the code fills in is the sheet's.
 -- Assumes nothing.
-use mathlib.Core.Path.{_≡_, refl, sym, ap, ap₂, _∙_}
-use mathlib.Core.Bool.{true, false}
+use mathlib.Core.Path.{_≡_, sym, ap, ap₂, _∙_}
+use mathlib.Core.Bool.{true}
 use mathlib.Core.List.{List}
 use Prim.Native.Nat.{ℕ, _*_, _/_, _%_, _^_, _≤_, _<_}
 use native.Mathlib.Nat.{one-le-pow}
 use native.Mathlib.Omega.{arith}
 use lib.Dec.{eqb}
 use lib.ListN.{length, getD}
-use Rattle.records.specs.Meaning.Limits.{maxStates, maxLetters, maxHorizon, horizonOk}
+use Rattle.records.specs.Meaning.Limits.{maxStates, maxLetters}
 use Rattle.records.specs.Model.Bounded.{top}
 use Rattle.records.specs.Model.Lists.{put}
 use Rattle.records.specs.Laws.Lists.{length-put, getD-put-front, getD-tab}
 use Rattle.records.specs.Laws.Tests.{by-test}
 use Rattle.game.specs.Model.Extreme.{Pick, bottom}
 use Rattle.game.specs.Laws.Extreme.{Picks, largest, smallest}
-use Rattle.sheet.specs.Meaning.Decoded.{Decoded, inputLines}
+use Rattle.sheet.specs.Meaning.Decoded.{Decoded}
 use Rattle.sheet.specs.Model.Where.{Fits, decoded}
 use Rattle.sheet.specs.declared.layout.Sheet.{Sheet}
 use Rattle.product.specs.Meaning.Step.{inputsOf, softReward, weightOf}
@@ -33,8 +33,8 @@ use Rattle.plan.specs.Model.Playing.{bestAt, KeptNumber}
 use Rattle.plan.specs.Model.Planned.{Playable}
 use Rattle.plan.specs.Laws.Planned.{own-horizon, horizon-in-bounds, counts-low, plan-words, plan-stored, plan-sized}
 use Rattle.plan.specs.Laws.Solved.{few}
-use Rattle.card.specs.Model.Card.{Summed, Worked, averagesOf, entryOf, entryAt, cardOf}
-use Rattle.card.specs.Laws.Card.{entry-kept, entry-lost, card-ext}
+use Rattle.card.specs.Model.Card.{Worked, entryAt, cardOf}
+use Rattle.card.specs.Laws.Card.{entry-lost, card-ext}
 use Rattle.forecast.specs.Model.Forecast.{sumAt, leastAt, bestsOf, leastsOf, forecastCard}
 use Rattle.forecast.specs.Laws.Sums.{stored-sum, best-is}
 

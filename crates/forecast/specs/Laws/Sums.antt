@@ -2,18 +2,16 @@
 -- Assumes nothing.
 use mathlib.Core.Path.{_≡_, sym, ap, fun-ext, _∙_, subst, subst₂}
 use mathlib.Core.Logic.{_↔_}
-use mathlib.Core.Bool.{true, cond}
+use mathlib.Core.Bool.{true}
 use mathlib.Core.List.{List}
 use Prim.Native.Nat.{ℕ, suc, _+_, _*_, _^_, _≤_, _<_}
 use native.Mathlib.Nat.{mul-le-mul}
 use native.Mathlib.Omega.{arith}
-use lib.ListN.{getD}
 use Rattle.records.specs.Meaning.Limits.{maxStates, maxHorizon}
 use Rattle.records.specs.Model.Bounded.{top}
-use Rattle.game.specs.Meaning.Ways.{AtMost, AtLeast, Extremal}
-use Rattle.game.specs.Model.Extreme.{Pick, bottom, valueBy}
-use Rattle.game.specs.Model.Rounds.{Good}
-use Rattle.game.specs.Laws.Extreme.{Picks, largest, smallest, value-by-top, value-by-named, least-most}
+use Rattle.game.specs.Meaning.Ways.{AtMost, Extremal}
+use Rattle.game.specs.Model.Extreme.{Pick, valueBy}
+use Rattle.game.specs.Laws.Extreme.{Picks, largest, value-by-top, value-by-named, least-most}
 use Rattle.game.specs.Laws.Naming.{Names}
 use Rattle.game.specs.Laws.Reachable.{reachable-closed}
 use Rattle.game.specs.Laws.Rounds as rounds
@@ -24,7 +22,7 @@ use Rattle.product.specs.Meaning.Step.{inputsOf, outputsOf, advance, unbroken, 
 use Rattle.product.specs.Meaning.States.{Reached}
 use Rattle.product.specs.Laws.Rewards.{reward-most}
 use Rattle.product.specs.Model.ProductNumbering.{stateCount, stateOf}
-use Rattle.solve.specs.Meaning.Allowed.{Kept, Allowed}
+use Rattle.solve.specs.Meaning.Allowed.{Allowed}
 use Rattle.solve.specs.Laws.Entries.{sheet-steps, settled-quiet}
 use Rattle.rounds.specs.Model.TableRounds.{Steps}
 use Rattle.values.specs.Model.Values.{Game, mayGive, cellNext, earns}

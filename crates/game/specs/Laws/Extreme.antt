@@ -1,17 +1,16 @@
 -- Laws of the smallest, and what the largest and the smallest have in common.
 -- Assumes nothing.
-use mathlib.Core.Path.{_≡_, refl, sym, ap, ap₂, _∙_}
+use mathlib.Core.Path.{_≡_, refl, ap, ap₂, _∙_}
 use mathlib.Core.Bool.{Bool, true, false, cond}
-use Prim.Native.Nat.{ℕ, zero, suc, _+_, _*_, _^_, _≤_, _<_, min, max}
+use Prim.Native.Nat.{ℕ, zero, suc, _+_, _*_, _^_, _≤_, _<_, min}
 use native.Mathlib.Decide.{decLt}
 use native.Mathlib.Numerals.{add-one}
 use native.Mathlib.Omega.{arith}
 use Rattle.records.specs.Meaning.Bounded.{any, sum}
-use Rattle.records.specs.Laws.Bounded.{cases-suc, any-at, any-of, any-not, any-cong, sum-le, sum-cong, top-ge, top-le, top-cong}
+use Rattle.records.specs.Laws.Bounded.{cases-suc, any-at, any-not, any-cong, sum-le, sum-cong, top-ge, top-cong}
 use Rattle.records.specs.Laws.Tests.{by-test, both-ways}
 use Rattle.records.specs.Model.Bounded.{top}
 use Rattle.game.specs.Meaning.Ways.{Extremal, AtMost, AtLeast}
-use Rattle.game.specs.Model.Choice.{Leads}
 use Rattle.game.specs.Model.Extreme.{bottom, Pick, valueBy}
 use Rattle.game.specs.Model.Value.{value}
 use Rattle.game.specs.Laws.Choice.{choose-leads, leads-top}

@@ -11,11 +11,10 @@ use native.Mathlib.Omega.{arith}
 use lib.Dec.{eqb}
 use lib.ListN.{replicate}
 use borrow.Author.Tests.{eqb-true, eq-eqb}
-use Rattle.records.specs.Meaning.Bounded.{sum}
 use Rattle.records.specs.Model.Bounded.{least}
 use Rattle.records.specs.Laws.Bounded.{sum-cong}
 use Rattle.records.specs.Laws.Tests.{by-test, and-left, and-right, and-both}
-use Rattle.game.specs.Meaning.Words.{Word, words, total}
+use Rattle.game.specs.Meaning.Words.{words, total}
 use Rattle.game.specs.Meaning.Strategy.{Along, first, after}
 use Rattle.game.specs.Meaning.Plans.{rewards}
 use Rattle.game.specs.Meaning.Ways.{Extremal, Way, wayEarns, Earned, Recursion}

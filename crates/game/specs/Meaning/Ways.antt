@@ -3,7 +3,7 @@
 -- Assumes nothing.
 use mathlib.Core.Path.{_≡_}
 use mathlib.Core.List.{List}
-use Prim.Native.Nat.{ℕ, zero, suc, _+_, _*_, _^_, _≤_, _<_}
+use Prim.Native.Nat.{ℕ, suc, _+_, _*_, _^_, _≤_, _<_}
 use Rattle.records.specs.Meaning.Bounded.{sum}
 use Rattle.game.specs.Meaning.Words.{Word, words, total}
 use Rattle.game.specs.Meaning.Strategy.{Along}

@@ -8,7 +8,7 @@ use Prim.Native.Nat.{ℕ, zero, suc, _+_, _*_, _^_, _≤_, _<_}
 use native.Mathlib.Omega.{arith}
 use lib.Dec.{eqb}
 use lib.ListN.{length, getD, length-replicate}
-use borrow.Author.Tests.{eqb-false, not-true}
+use borrow.Author.Tests.{not-true}
 use Rattle.records.specs.Laws.Tests.{and-left}
 use Rattle.records.specs.Meaning.Limits.{maxStates}
 use Rattle.records.specs.Laws.Bounded.{sum-cong, top-cong}
@@ -17,7 +17,6 @@ use Rattle.records.specs.Meaning.Numbers.{zeros}
 use Rattle.sheet.specs.Meaning.Decoded.{Decoded}
 use Rattle.product.specs.Meaning.Step.{inputsOf, outputsOf}
 use Rattle.product.specs.Model.ProductNumbering.{stateCount}
-use Rattle.product.specs.Laws.ProductNumbering.{some-state}
 use Rattle.game.specs.Model.Numbering.{find}
 use Rattle.game.specs.Laws.Numbering.{explore-cong}
 use Rattle.game.specs.Laws.Reachable.{letter-low}

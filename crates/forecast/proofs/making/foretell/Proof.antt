@@ -1,10 +1,8 @@
 -- `forecast::making::foretell`: each step's promise is what the next one asks for, and the last fills in the sheet's card. Assumes nothing.
-use Prim.Native.Nat.{_≤_}
 use native.Mathlib.Omega.{arith}
 use mathlib.Core.Path.{_∙_}
 use Rattle.values.specs.Model.Values.{SizedGame}
 use Rattle.values.specs.Model.Sizes.{gameOf}
-use Rattle.card.specs.Model.Card.{Worked}
 use Rattle.sheet.specs.Laws.LayoutFacts.{inputs-low, outputs-low}
 use Rattle.plan.specs.Laws.Planned.{tuples-in-range, counts-low, plan-words, plan-sized, horizon-in-bounds}
 use Rattle.forecast.specs.Laws.Foretold.{card-worked, card-is}
