@@ -1,2 +1,4 @@
 -- Laws that belong to no one function.
+pub mod Foretold
 pub mod Answered
+pub mod Promise

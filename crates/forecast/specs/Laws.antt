@@ -1,4 +1,3 @@
 -- Theorems that other crates and the sources cite.
 pub mod Sums
-pub mod Foretold
 pub mod Foretells

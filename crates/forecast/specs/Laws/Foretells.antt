@@ -1,52 +1,49 @@
--- What the sheet's card says of its product states, and the promise of the forecast.
+-- What the sheet's card says of its product states, and that no other card says it.
 -- Assumes nothing.
-use mathlib.Core.Path.{_≡_, refl, sym, ap, _∙_, subst}
+use mathlib.Core.Path.{_≡_, refl, sym, ap, ap₂, _∙_, subst}
 use mathlib.Core.Logic.{_↔_}
 use mathlib.Core.Bool.{Bool, true, false, cond}
-use mathlib.Core.Option.{none, some}
+use mathlib.Core.Option.{Option, none, some}
 use mathlib.Core.List.{List}
 use Prim.Native.Nat.{ℕ, zero, _*_, _^_, _≤_, _<_}
+use native.Mathlib.Decide.{decLt}
 use native.Mathlib.Omega.{arith}
-use lib.Dec.{eqb}
-use lib.ListN.{length}
+use lib.ListN.{length, getD}
+use lib.Ieee.{Float}
 use lib.Pow.{pow-pos}
-use borrow.Author.Tests.{eq-eqb, ne-eqb}
+use lib.Seq.{ext-getD}
 use Rattle.records.specs.Meaning.Limits.{maxStates}
-use Rattle.records.specs.Meaning.Numbers.{Bytes}
-use Rattle.records.specs.Meaning.Work.{longEnough, askedBytes}
 use Rattle.records.specs.Laws.Lists.{getD-tab}
+use Rattle.records.specs.Laws.Tests.{by-test}
 use Rattle.game.specs.Laws.Extreme.{largest, smallest, value-by-none}
 use Rattle.game.specs.Laws.Value.{value-none}
 use Rattle.sheet.specs.Meaning.Decoded.{Decoded, SheetOk, inputLines}
-use Rattle.sheet.specs.Meaning.Grounds.{verdictNumber}
-use Rattle.sheet.specs.Laws.Reading.{only-sheet}
-use Rattle.product.specs.Meaning.Step.{inputsOf, outputsOf, advance, reward}
+use Rattle.product.specs.Meaning.Step.{inputsOf, outputsOf, advance, reward, firstTuple}
+use Rattle.product.specs.Meaning.States.{Reached}
 use Rattle.product.specs.Model.ProductNumbering.{productStates, stateCount, stateOf, numberOf}
 use Rattle.product.specs.Laws.ProductNumbering.{state-number, state-reached}
-use Rattle.product.specs.Laws.Ordered.{product-states}
+use Rattle.product.specs.Laws.Ordered.{product-states, product-states-once}
 use Rattle.rounds.specs.Model.TableRounds.{isIn}
-use Rattle.solve.specs.Meaning.Allowed.{Kept, Lost, Accepted}
-use Rattle.solve.specs.Model.Making.{sheetOf}
+use Rattle.solve.specs.Meaning.Allowed.{Kept, Lost}
 use Rattle.solve.specs.Model.Steps.{droppedOf}
 use Rattle.solve.specs.Laws.Entries.{in-iff, out-iff}
-use Rattle.solve.specs.Laws.Judging.{accepted-layout}
-use Rattle.solve.specs.Laws.Opening.{opens-sheet}
 use Rattle.plan.specs.Model.Playing.{mayAt, bestAt}
 use Rattle.plan.specs.Laws.Solved.{pow-pow}
 use Rattle.averages.specs.Meaning.Averages.{averageOf}
 use Rattle.averages.specs.Laws.Averages.{exactly, zero-bits}
-use Rattle.card.specs.Meaning.Card.{averagesIn}
-use Rattle.card.specs.Model.Card.{averagesOf, entryAt, lostCard}
-use Rattle.card.specs.Laws.Card.{entry-averages, card-count, card-length, card-at, card-past, lost-at, lost-length, lost-count}
+use Rattle.card.specs.Meaning.Card.{averagesIn, lostEntry}
+use Rattle.card.specs.Model.Card.{averagesOf, entryAt}
+use Rattle.card.specs.Laws.Card.{entry-averages, card-count, card-at, card-past}
 use Rattle.card.specs.declared.Averages.{Averages}
+use Rattle.card.specs.declared.Prospect.{Prospect}
+use Rattle.card.specs.declared.Prospect.the-variants as prospect
+use Rattle.card.specs.declared.Prospect.the-variants.{Worth}
 use Rattle.card.specs.declared.Card.{Card}
 use Rattle.card.specs.declared.Entry.{Entry}
-use Rattle.forecast.specs.Meaning.Forecast.{KeptState, AverageOf, WorthOf, MostEarned}
+use Rattle.forecast.specs.Meaning.Forecast.{KeptState, ExactAverage, WorthOf, MostEarned}
 use Rattle.forecast.specs.Model.Forecast.{leastAt, bestsOf, leastsOf, forecastCard}
-use Rattle.forecast.specs.Model.Forecasting.{Answers}
-use Rattle.forecast.specs.Laws.Sums.{sum-earned, sums-by, best-sums-by, best-is, least-best, best-most, least-sum-most}
-use Rattle.forecast.specs.Promises.Forecast.{forecastWork, saysOf, Foretells, Unforetold, MakesForecast}
-use Rattle.forecast.specs.declared.making.Forecasting.{Forecasting}
+use Rattle.forecast.specs.Laws.Sums.{sum-earned, best-is, least-best, best-most, least-sum-most}
+use Rattle.forecast.specs.Promises.Forecast.{saysOf, Foretells}
 
 -- ---- a kept state
 
@@ -55,7 +52,7 @@ module _ (d : Decoded) (ok : SheetOk d) where
   words-are : inputsOf d ^ d .horizon ≡ 2 ^ (inputLines d * d .horizon)
   words-are = pow-pow 2 (inputLines d) (d .horizon)
 
-  average-is : (sum : ℕ) → sum ≤ 2 ^ 53 → AverageOf d (d .horizon) sum (averageOf sum (inputsOf d ^ d .horizon))
+  average-is : (sum : ℕ) → sum ≤ 2 ^ 53 → ExactAverage d (d .horizon) sum (averageOf sum (inputsOf d ^ d .horizon))
   average-is sum most =
       rw words-are
       (record {
@@ -132,7 +129,7 @@ module _ (d : Decoded) (ok : SheetOk d) where
       worth-said kept =
           (averages k, said ∙ rw (kept-is .1 kept), worth-of (stateOf d k) (record { reached = state-reached d k low; kept = kept }))
 
-    foretells : Foretells d (forecastCard d)
+    pub foretells : Foretells d (forecastCard d)
     unfolding forecastCard stateCount stateOf
     foretells =
         let count = card-count (droppedOf d) (bestsOf d) (leastsOf d) (inputsOf d ^ d .horizon) (stateCount d) in
@@ -148,35 +145,69 @@ module _ (d : Decoded) (ok : SheetOk d) where
               (card-past (droppedOf d) (bestsOf d) (leastsOf d) (inputsOf d ^ d .horizon) (stateCount d) k (rw count at h));
         }
 
--- ---- the promise
+-- ---- no other card says it
 
-lost-card : Unforetold lostCard
-lost-card =
-    record { count-none = lost-count; every-lost = λ k h. ap (λ (e : Entry). averagesIn (e .prospect)) (lost-at k) }
+-- what averages are in it tells a prospect
+same-prospect : (p q : Prospect) → averagesIn p ≡ averagesIn q → p ≡ q
+same-prospect prospect.Lost prospect.Lost e = refl
+same-prospect prospect.Lost (Worth b) e = absurd (let z : _≡_ {A = ℕ} 0 1 = cc in omega arith)
+same-prospect (Worth a) prospect.Lost e = absurd (let z : _≡_ {A = ℕ} 0 1 = cc in omega arith)
+same-prospect (Worth a) (Worth b) e = let z : a ≡ b = cc in ap {B = Prospect} Worth z
 
-pub forecast-promise : {s : List ℕ} {r : Forecasting} (lent : List ℕ) → Bytes s → Answers (longEnough forecastWork lent) s r
-    → MakesForecast s lent r
-unfolding askedBytes forecastCard sheetOf
-forecast-promise {s} {r} lent bytes answers =
-    record {
-      answers = answers;
-      opens = opens-sheet (r .verdict) bytes (answers .number);
-      entries = size (eqb (verdictNumber (r .verdict)) 0) (answers .card-is);
-      foretold = λ e d a.
-          subst (Foretells d) (sym (made e ∙ ap forecastCard (sheet d a))) (foretells d (a .sheet .in-bounds) (accepted-layout a));
-      refused = λ bad. subst Unforetold (sym (answers .card-is ∙ rw (ne-eqb _ 0 bad))) lost-card;
-      best-sums = λ d a. best-sums-by d (accepted-layout a);
-      least-sums = λ d a. sums-by d (accepted-layout a) smallest;
-      work-bytes = omega arith;
-      work-doubled = omega arith;
-    }
-  where
-    size : (b : Bool) → r .card ≡ cond b (forecastCard (sheetOf s)) lostCard → length (r .card .entries) ≡ maxStates
-    size true e = ap (λ (c : Card). length (c .entries)) e ∙ card-length _ _ _ _ _
-    size false e = ap (λ (c : Card). length (c .entries)) e ∙ lost-length
+-- the sums behind them tell averages
+same-averages : (d : Decoded) {h : ℕ} {t : List ℕ} {most least : ℕ} {a b : Averages}
+    → WorthOf d h t most least a → WorthOf d h t most least b → a ≡ b
+same-averages d x y =
+    ap₂ {C = Averages} (λ (p q : Float). record { best = p; least = q })
+    (x .best-average .float ∙ sym (y .best-average .float)) (x .least-average .float ∙ sym (y .least-average .float))
 
-    made : verdictNumber (r .verdict) ≡ 0 → r .card ≡ forecastCard (sheetOf s)
-    made e = answers .card-is ∙ rw (eq-eqb _ 0 e)
+module _ (d : Decoded) (fits : stateCount d ≤ maxStates) {c e : Card} (x : Foretells d c) (y : Foretells d e) where
+  same-tuples : x .tuples ≡ y .tuples
+  same-tuples = product-states-once d (x .tuples) (y .tuples) (x .numbered) (y .numbered)
 
-    sheet : (d : Decoded) → Accepted s d → sheetOf s ≡ d
-    sheet d a = only-sheet s d (a .sheet .in-bounds) (a .sheet .bytes)
+  same-count : c .count ≡ e .count
+  same-count = x .count-is ∙ ap length same-tuples ∙ sym (y .count-is)
+
+  module _ (k : ℕ) (low : k < c .count) where
+    abbrev t : List ℕ
+    t = getD (x .tuples) k (firstTuple d)
+
+    one : t ≡ getD (y .tuples) k (firstTuple d)
+    one = ap (λ (l : List (List ℕ)). getD l k (firstTuple d)) same-tuples
+
+    also : k < e .count
+    also = omega (arith, same-count)
+
+    same-kept : Kept d t → averagesIn (saysOf c k) ≡ averagesIn (saysOf e k)
+    same-kept kept =
+        let a = x .worth k low kept in
+        let b = y .worth k also (subst (Kept d) one kept) in
+        a .1
+        ∙ ap {B = Option Averages} some
+        (same-averages d (a .2)
+        (subst (λ (u : List ℕ). WorthOf d (d .horizon) u (bestAt d (d .horizon) u) (leastAt d (d .horizon) u) (b .0)) (sym one) (b .2)))
+        ∙ sym (b .1)
+
+    same-lost : Lost d t → averagesIn (saysOf c k) ≡ averagesIn (saysOf e k)
+    same-lost lost = x .lost k low .1 lost ∙ sym (y .lost k also .1 (subst (Lost d) one lost))
+
+    same-said : averagesIn (saysOf c k) ≡ averagesIn (saysOf e k)
+    same-said =
+        let r : Reached d t = x .numbered .each k (omega (arith, x .count-is)) in
+        by-test (isIn (droppedOf d) (numberOf d t))
+        (λ b. same-kept (in-iff d fits t r .0 b)) (λ b. same-lost (out-iff d fits t r .0 b))
+
+  same-entry : (k : ℕ) → k < maxStates → getD (c .entries) k lostEntry ≡ getD (e .entries) k lostEntry
+  same-entry k h =
+      ap {B = Entry} (λ (p : Prospect). record { prospect = p })
+      (same-prospect (saysOf c k) (saysOf e k)
+      (elim (decLt k (c .count)) [
+        | yes l ↦ same-said k l
+        | no l ↦ x .past k (omega arith) h ∙ sym (y .past k (omega (arith, same-count)) h)
+      ]))
+
+  -- two cards of 256 entries that foretell the same are one
+  pub only-card : length (c .entries) ≡ maxStates → length (e .entries) ≡ maxStates → c ≡ e
+  only-card long wide =
+      ap₂ {C = Card} (λ (n : ℕ) (l : List Entry). record { count = n; entries = l }) same-count
+      (ext-getD lostEntry (c .entries) (e .entries) (long ∙ sym wide) (λ k l. same-entry k (omega arith)))

@@ -43,7 +43,7 @@ LeastSums = SumsBy AtLeast
 
 -- x is the average of a sum over the words of h inputs: its value × 2^(inputs × h) is the sum, and it is the float that is nearest;
 -- 0 is +0
-pub record AverageOf (d : Decoded) (h sum : ℕ) (x : Float) : Type 0 where
+pub record ExactAverage (d : Decoded) (h sum : ℕ) (x : Float) : Type 0 where
   pub most : sum ≤ 2 ^ 53
   pub exact : Exactly x sum (2 ^ (inputLines d * h))
   pub float : x ≡ averageOf sum (2 ^ (inputLines d * h))
@@ -51,8 +51,8 @@ pub record AverageOf (d : Decoded) (h sum : ℕ) (x : Float) : Type 0 where
 
 -- what the card says of a kept tuple t over h steps; the whole sums are `most` and `least`
 pub record WorthOf (d : Decoded) (h : ℕ) (t : List ℕ) (most least : ℕ) (a : Averages) : Type 0 where
-  pub best-average : AverageOf d h most (a .best)
-  pub least-average : AverageOf d h least (a .least)
+  pub best-average : ExactAverage d h most (a .best)
+  pub least-average : ExactAverage d h least (a .least)
   pub best-earned : MostEarned d h t most
   pub least-earned : LeastEarned d h t least
   pub ordered : least ≤ most

@@ -22,7 +22,7 @@ use Rattle.card.specs.declared.Averages.{Averages}
 use Rattle.card.specs.declared.Card.{Card}
 use Rattle.card.specs.declared.Prospect.{Prospect}
 use Rattle.forecast.specs.Meaning.Forecast.{BestSums, LeastSums, WorthOf}
-use Rattle.forecast.specs.Model.Forecast.{leastAt}
+use Rattle.forecast.specs.Model.Forecast.{leastAt, forecastCard}
 use Rattle.forecast.specs.Model.Forecasting.{Answers}
 use Rattle.forecast.specs.declared.making.Forecasting.{Forecasting}
 
@@ -70,6 +70,9 @@ pub record MakesForecast (s lent : List ℕ) (r : Forecasting) : Type 0 where
   -- a card has 256 entries
   pub entries : length (r .card .entries) ≡ maxStates
   pub foretold : verdictNumber (r .verdict) ≡ 0 → (d : Decoded) → Accepted s d → Foretells d (r .card)
+  -- which no other card with 256 entries does
+  pub only : (d : Decoded) → Accepted s d → (card : Card) → length (card .entries) ≡ maxStates → Foretells d card
+      → card ≡ forecastCard d
   pub refused : (verdictNumber (r .verdict) ≡ 0 → ⊥) → Unforetold (r .card)
   -- the sums behind the averages, by document 01's recursion
   pub best-sums : (d : Decoded) → Accepted s d → BestSums d (bestAt d)

@@ -5,7 +5,7 @@ use Rattle.values.specs.Model.Values.{SizedGame}
 use Rattle.values.specs.Model.Sizes.{gameOf}
 use Rattle.sheet.specs.Laws.LayoutFacts.{inputs-low, outputs-low}
 use Rattle.plan.specs.Laws.Planned.{tuples-in-range, counts-low, plan-words, plan-sized, horizon-in-bounds}
-use Rattle.forecast.specs.Laws.Foretold.{card-worked, card-is}
+use Rattle.forecast.proofs.Foretold.{card-worked, card-is}
 use borrow.Author.Needs.{needs}
 use Rattle.forecast.proofs.making.foretell.Statement.{statement}
 use Rattle.forecast.proofs.making.foretell.Tie as tie
