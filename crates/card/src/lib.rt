@@ -2,7 +2,7 @@
 use averages::average;
 use records::limits::Limits;
 ghost use mathlib.Core.Path.{_≡_};
-ghost use Rattle.card.specs.Model.Card.{Summed, Worked, averagesOf, entryOf, lostCard, cardOf};
+ghost use Rattle.card.specs.Model.Card.{Summed, Worked, averagesOf, cardEntry, lostCard, cardOf};
 
 // The best and the least average reward of a kept state.
 pub struct Averages {
@@ -41,7 +41,7 @@ pub fn averaged(best: u64, least: u64, words: u64) -> Averages
 // The entry of a state: lost unless the round that dropped it is 0, which is none.
 pub fn entry_at(round: u16, best: u64, least: u64, words: u64) -> Entry
     requires { ⌜ Summed best least words ⌝ }
-    ensures { λ r. ⌜ r ≡ entryOf round best least words ⌝ }
+    ensures { λ r. ⌜ r ≡ cardEntry round best least words ⌝ }
 {
     let mut prospect = Prospect::Lost;
     if round == 0 {

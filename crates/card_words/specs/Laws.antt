@@ -1,3 +1,3 @@
 -- Theorems that other crates and the sources cite.
 pub mod CardWords
-pub mod Numbers
+pub mod CardNumbers

@@ -1,2 +1,2 @@
 -- Definitions that go the way the code goes.
-pub mod Numbers
+pub mod CardNumbers

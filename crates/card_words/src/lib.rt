@@ -8,7 +8,7 @@ ghost use Prim.Native.Nat.{_+_, _≤_};
 ghost use lib.ListN.{length};
 ghost use lib.Seq.{sets};
 ghost use Rattle.card_words.specs.Meaning.CardWords.{cardLength, entryWords, cardWords};
-ghost use Rattle.card_words.specs.Model.Numbers.{Number, Numbers};
+ghost use Rattle.card_words.specs.Model.CardNumbers.{Number, AllNumbers};
 
 // A card's words: its count, then two for each entry.
 pub struct CardWords {}
@@ -43,7 +43,7 @@ fn put_entry(words: &mut [u64], at: usize, entry: Entry)
 // Writes the card into words. What stood after its words stays.
 pub fn write_card(card: Card, words: &mut [u64])
     requires { ⌜ cardLength ≤ length (now words) ⌝ }
-    requires { ⌜ Numbers (card .entries) ⌝ }
+    requires { ⌜ AllNumbers (card .entries) ⌝ }
     ensures { λ _. ⌜ now (words .exit) ≡ sets (now (words .entry)) 0 (cardWords card) ⌝ }
 {
     words[0] = card.count as u64;

@@ -21,14 +21,14 @@ use Rattle.solve.specs.Model.Making.{sheetOf}
 use Rattle.solve.specs.Model.Opening.{OpenAnswer}
 use Rattle.card.specs.Model.Card.{lostCard}
 use Rattle.card.specs.declared.Card.{Card}
-use Rattle.forecast.specs.Model.Forecast.{forecastCard, Room}
-use Rattle.forecast.specs.Model.Forecasting.{Answers}
+use Rattle.forecast.specs.Model.Forecast.{forecastCard, ForecastRoom}
+use Rattle.forecast.specs.Model.Forecasting.{AnswersForecast}
 use Rattle.forecast.specs.Promises.Forecast.{forecastWork}
 
 module _ {ok : Bool} {s : List ℕ} {v : Verdict} {n kept : ℕ} (opening : OpenAnswer ok s v n kept) where
   -- a refusal
   pub answers-refused : {g : Refusal} {card : Card} → v ≡ Refused g → card ≡ lostCard
-      → Answers ok s (record { verdict = Refused g; card = card })
+      → AnswersForecast ok s (record { verdict = Refused g; card = card })
   answers-refused {g} e lost =
       let n = some-number g in
       let off : eqb (groundNumber g) 0 ≡ false = ne-eqb (groundNumber g) 0 (λ z. omega (arith, n .1)) in
@@ -36,7 +36,7 @@ module _ {ok : Bool} {s : List ℕ} {v : Verdict} {n kept : ℕ} (opening : Open
 
   -- a card
   pub answers-made : (sheet : Sheet) {card : Card} → v ≡ Accepted → decoded s sheet ≡ sheetOf s → card ≡ forecastCard (decoded s sheet)
-      → Answers ok s (record { verdict = Accepted; card = card })
+      → AnswersForecast ok s (record { verdict = Accepted; card = card })
   answers-made sheet e same made =
       record { number = sym (ap verdictNumber e) ∙ opening .number; card-is = made ∙ ap forecastCard same }
 
@@ -58,7 +58,7 @@ lengths tuples cells dropped gains bonuses bests leasts highs lows =
 
 pub work-room : (tuples cells dropped gains bonuses bests leasts highs lows : List ℕ)
     → longEnough forecastWork (lengths tuples cells dropped gains bonuses bests leasts highs lows) ≡ true
-    → Room tuples cells dropped gains bonuses bests leasts highs lows
+    → ForecastRoom tuples cells dropped gains bonuses bests leasts highs lows
 unfolding Long
 work-room tuples cells dropped gains bonuses bests leasts highs lows e =
     let opening = long-enough forecastWork (lengths tuples cells dropped gains bonuses bests leasts highs lows) e in

@@ -33,7 +33,7 @@ use Rattle.plan.specs.Model.Playing.{bestAt, KeptNumber}
 use Rattle.plan.specs.Model.Planned.{Playable}
 use Rattle.plan.specs.Laws.Planned.{own-horizon, horizon-in-bounds, counts-low, plan-words, plan-stored, plan-sized}
 use Rattle.plan.specs.Laws.Solved.{few}
-use Rattle.card.specs.Model.Card.{Worked, entryAt, cardOf}
+use Rattle.card.specs.Model.Card.{Worked, cardEntryAt, cardOf}
 use Rattle.card.specs.Laws.Card.{entry-lost, card-ext}
 use Rattle.forecast.specs.Model.Forecast.{sumAt, leastAt, bestsOf, leastsOf, forecastCard}
 use Rattle.forecast.specs.Laws.Sums.{stored-sum, best-is}
@@ -106,7 +106,7 @@ module _
 
     -- so the card is the sheet's
     pub card-is : cardOf dropped bests leasts words n ≡ forecastCard d
-    unfolding forecastCard entryAt bestsOf leastsOf
+    unfolding forecastCard cardEntryAt bestsOf leastsOf
     card-is =
         card-ext dropped bests leasts words n (droppedOf d) (bestsOf d) (leastsOf d) (inputsOf d ^ d .horizon) (stateCount d)
         (p .solution .numbering .counted) same
@@ -114,8 +114,8 @@ module _
         words-are : words ≡ inputsOf d ^ d .horizon
         words-are = counted ∙ ap₂ (λ (i h : ℕ). i ^ h) (is-inputs ∙ layout-inputs fits) (own-horizon s sheet)
 
-        same : (k : ℕ) → k < n → entryAt dropped bests leasts words k
-            ≡ entryAt (droppedOf d) (bestsOf d) (leastsOf d) (inputsOf d ^ d .horizon) k
+        same : (k : ℕ) → k < n → cardEntryAt dropped bests leasts words k
+            ≡ cardEntryAt (droppedOf d) (bestsOf d) (leastsOf d) (inputsOf d ^ d .horizon) k
         same k h =
             let low : k < stateCount d = omega (arith, p .solution .numbering .counted) in
             rw (p .solution .rounds k h)

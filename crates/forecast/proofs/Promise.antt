@@ -25,7 +25,7 @@ use Rattle.card.specs.Laws.Card.{card-length, lost-at, lost-length, lost-count}
 use Rattle.card.specs.declared.Card.{Card}
 use Rattle.card.specs.declared.Entry.{Entry}
 use Rattle.forecast.specs.Model.Forecast.{forecastCard}
-use Rattle.forecast.specs.Model.Forecasting.{Answers}
+use Rattle.forecast.specs.Model.Forecasting.{AnswersForecast}
 use Rattle.forecast.specs.Laws.Sums.{sums-by, best-sums-by}
 use Rattle.forecast.specs.Promises.Forecast.{forecastWork, Foretells, Unforetold, MakesForecast}
 use Rattle.forecast.specs.declared.making.Forecasting.{Forecasting}
@@ -36,7 +36,7 @@ lost-card : Unforetold lostCard
 lost-card =
     record { count-none = lost-count; every-lost = λ k h. ap (λ (e : Entry). averagesIn (e .prospect)) (lost-at k) }
 
-pub forecast-promise : {s : List ℕ} {r : Forecasting} (lent : List ℕ) → Bytes s → Answers (longEnough forecastWork lent) s r
+pub forecast-promise : {s : List ℕ} {r : Forecasting} (lent : List ℕ) → Bytes s → AnswersForecast (longEnough forecastWork lent) s r
     → MakesForecast s lent r
 unfolding askedBytes forecastCard sheetOf
 forecast-promise {s} {r} lent bytes answers =

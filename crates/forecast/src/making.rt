@@ -11,8 +11,8 @@ ghost use mathlib.Core.Path.{_≡_};
 ghost use mathlib.Core.Bool.{true};
 ghost use Rattle.sheet.specs.Model.Where.{Fits, decoded};
 ghost use Rattle.plan.specs.Model.Planned.{Playable};
-ghost use Rattle.forecast.specs.Model.Forecast.{forecastCard, Room};
-ghost use Rattle.forecast.specs.Model.Forecasting.{Answers};
+ghost use Rattle.forecast.specs.Model.Forecast.{forecastCard, ForecastRoom};
+ghost use Rattle.forecast.specs.Model.Forecasting.{AnswersForecast};
 
 // The verdict, and the card: on a refusal it has no state, and every entry is lost.
 pub struct Forecasting {
@@ -38,7 +38,7 @@ pub fn foretell(
     requires { ⌜ Fits (now s) sheet ⌝ }
     requires { ⌜ Playable (decoded (now s) sheet) n (now tuples) (now cells) (now dropped) ⌝ }
     requires { ⌜
-        Room (now tuples) (now cells) (now dropped) (now gains) (now bonuses) (now bests) (now leasts) (now highs) (now lows) ⌝ }
+        ForecastRoom (now tuples) (now cells) (now dropped) (now gains) (now bonuses) (now bests) (now leasts) (now highs) (now lows) ⌝ }
     ensures { λ r. ⌜ r ≡ forecastCard (decoded (now (s .entry)) sheet) ⌝ }
 {
     let ins = pow2(sheet.inputs);
@@ -77,9 +77,9 @@ pub fn make_with(
     lows: &mut [u64],
 ) -> Forecasting
     requires { ⌜
-        (ok ≡ true → Room (now tuples) (now cells) (now dropped) (now gains) (now bonuses) (now bests) (now leasts) (now highs)
+        (ok ≡ true → ForecastRoom (now tuples) (now cells) (now dropped) (now gains) (now bonuses) (now bests) (now leasts) (now highs)
         (now lows)) ⌝ }
-    ensures { λ r. ⌜ Answers ok (now (s .entry)) r ⌝ }
+    ensures { λ r. ⌜ AnswersForecast ok (now (s .entry)) r ⌝ }
 {
     let opening = open_sheet(ok, s, tuples, cells, dropped);
     let verdict = opening.verdict;

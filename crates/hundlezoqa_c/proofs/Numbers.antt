@@ -9,17 +9,17 @@ use Rattle.sheet.specs.Meaning.Grounds.{verdictNumber}
 use Rattle.solve.specs.Model.Making.{sheetOf}
 use Rattle.card.specs.Model.Card.{lostCard}
 use Rattle.card.specs.declared.Card.{Card}
-use Rattle.card_words.specs.Model.Numbers.{Numbers}
-use Rattle.card_words.specs.Laws.Numbers.{lost-numbers, card-numbers}
+use Rattle.card_words.specs.Model.CardNumbers.{AllNumbers}
+use Rattle.card_words.specs.Laws.CardNumbers.{lost-numbers, card-numbers}
 use Rattle.forecast.specs.Model.Forecast.{forecastCard}
 use Rattle.forecast.specs.Promises.Forecast.{MakesForecast}
 use Rattle.forecast.specs.declared.making.Forecasting.{Forecasting}
 
-pub made-numbers : {s lent : List ℕ} {r : Forecasting} → MakesForecast s lent r → Numbers (r .card .entries)
+pub made-numbers : {s lent : List ℕ} {r : Forecasting} → MakesForecast s lent r → AllNumbers (r .card .entries)
 unfolding forecastCard
 made-numbers {s} {lent} {r} m =
-    subst (λ (c : Card). Numbers (c .entries)) (sym (m .answers .card-is)) (either (eqb (verdictNumber (r .verdict)) 0))
+    subst (λ (c : Card). AllNumbers (c .entries)) (sym (m .answers .card-is)) (either (eqb (verdictNumber (r .verdict)) 0))
   where
-    either : (b : Bool) → Numbers (cond b (forecastCard (sheetOf s)) lostCard .entries)
+    either : (b : Bool) → AllNumbers (cond b (forecastCard (sheetOf s)) lostCard .entries)
     either true = card-numbers _ _ _ _ _
     either false = lost-numbers

@@ -19,7 +19,7 @@ use Rattle.values.specs.Model.Arrivals.{arrival, Prepared, Gained}
 use Rattle.values.specs.Laws.Growth.{words-mono}
 use Rattle.values.specs.Laws.Arrivals.{bare, bare-sized, prepared}
 use Rattle.outlook.specs.Model.Outlook.{worthBy, tableValue}
-use Rattle.outlook.specs.Laws.Outlook.{table-none, row-more, best-bound, least-bound, row-fits, arrivals-fit}
+use Rattle.outlook.specs.Laws.Outlook.{table-none, outlook-more, best-bound, least-bound, values-fit, arrivals-fit}
 
 -- what the loop relies on
 pub record Fits (g : Game) (n horizon : ℕ) : Type 0 where
@@ -90,7 +90,7 @@ module _ {g : Game} {n horizon factor p : ℕ} (fits : Fits g n horizon) (at : S
       figure-asks = (
         record { room = fits .gains; most = fits .sized .gain },
         (
-          row-fits (fits .sized) few-words values-most (omega (arith, figure-same r, r .rows)),
+          values-fit (fits .sized) few-words values-most (omega (arith, figure-same r, r .rows)),
           omega (arith, r .room, r .spares),
         ),
       )
@@ -109,7 +109,7 @@ module _ {g : Game} {n horizon factor p : ℕ} (fits : Fits g n horizon) (at : S
             record {
               rows = r .rows;
               spares = r .spares;
-              row = row-more x (fits .sized) memory (r .rows) p (r .row) (at .words) new f;
+              row = outlook-more x (fits .sized) memory (r .rows) p (r .row) (at .words) new f;
               room = rw (e, length-put) (r .room);
             }
 

@@ -15,7 +15,7 @@ use Rattle.records.specs.Laws.Lists.{length-put, put-ext, getD-put-front, getD-
 use Rattle.averages.specs.Meaning.Averages.{Exactly}
 use Rattle.averages.specs.Laws.Averages.{exactly}
 use Rattle.card.specs.Meaning.Card.{averagesIn, lostEntry}
-use Rattle.card.specs.Model.Card.{Summed, averagesOf, entryOf, entryAt, lostEntries, lostCard, cardOf}
+use Rattle.card.specs.Model.Card.{Summed, averagesOf, cardEntry, cardEntryAt, lostEntries, lostCard, cardOf}
 use Rattle.card.specs.declared.Prospect.the-variants.{Worth}
 use Rattle.card.specs.declared.Entry.{Entry}
 use Rattle.card.specs.declared.Card.{Card}
@@ -23,17 +23,17 @@ use Rattle.card.specs.declared.Card.{Card}
 -- ---- an entry
 
 module _ (round best least words : ℕ) where
-  pub entry-kept : eqb round 0 ≡ true → entryOf round best least words ≡ record { prospect = Worth (averagesOf best least words) }
-  unfolding entryOf
+  pub entry-kept : eqb round 0 ≡ true → cardEntry round best least words ≡ record { prospect = Worth (averagesOf best least words) }
+  unfolding cardEntry
   entry-kept k = simp k
 
-  pub entry-lost : eqb round 0 ≡ false → entryOf round best least words ≡ lostEntry
-  unfolding entryOf
+  pub entry-lost : eqb round 0 ≡ false → cardEntry round best least words ≡ lostEntry
+  unfolding cardEntry
   entry-lost k = simp k
 
   -- it has averages exactly if the state is kept
-  pub entry-averages : averagesIn (entryOf round best least words .prospect) ≡ cond (eqb round 0) (some (averagesOf best least words)) none
-  unfolding entryOf
+  pub entry-averages : averagesIn (cardEntry round best least words .prospect) ≡ cond (eqb round 0) (some (averagesOf best least words)) none
+  unfolding cardEntry
   entry-averages = by-test (eqb round 0) (λ k. rw k refl) (λ k. rw k refl)
 
 -- both are exact over 2 ^ k words
@@ -82,20 +82,20 @@ module _ (dropped bests leasts : List ℕ) (words n : ℕ) where
 
   -- the entry of each state
   pub card-at : (s : ℕ) → s < n → s < maxStates
-      → getD (cardOf dropped bests leasts words n .entries) s lostEntry ≡ entryAt dropped bests leasts words s
+      → getD (cardOf dropped bests leasts words n .entries) s lostEntry ≡ cardEntryAt dropped bests leasts words s
   unfolding cardOf
-  card-at s h l = getD-put-front lostEntries n (entryAt dropped bests leasts words) s lostEntry h (omega (arith, lost-places))
+  card-at s h l = getD-put-front lostEntries n (cardEntryAt dropped bests leasts words) s lostEntry h (omega (arith, lost-places))
 
   -- and lost past them
   pub card-past : (s : ℕ) → n ≤ s → getD (cardOf dropped bests leasts words n .entries) s lostEntry ≡ lostEntry
   unfolding cardOf
-  card-past s h = getD-put-rest lostEntries n (entryAt dropped bests leasts words) s lostEntry h ∙ lost-entry s
+  card-past s h = getD-put-rest lostEntries n (cardEntryAt dropped bests leasts words) s lostEntry h ∙ lost-entry s
 
 -- cards of as many states with the same entries are the same
 pub card-ext : (dropped bests leasts : List ℕ) (words n : ℕ) (dropped′ bests′ leasts′ : List ℕ) (words′ n′ : ℕ) → n ≡ n′
-    → ((s : ℕ) → s < n → entryAt dropped bests leasts words s ≡ entryAt dropped′ bests′ leasts′ words′ s)
+    → ((s : ℕ) → s < n → cardEntryAt dropped bests leasts words s ≡ cardEntryAt dropped′ bests′ leasts′ words′ s)
     → cardOf dropped bests leasts words n ≡ cardOf dropped′ bests′ leasts′ words′ n′
 unfolding cardOf
 card-ext dropped bests leasts words n dropped′ bests′ leasts′ words′ n′ e same =
     ap {B = Card} (λ (l : List Entry). record { count = n; entries = l }) (put-ext lostEntries n _ _ same)
-    ∙ ap {B = Card} (λ (m : ℕ). record { count = m; entries = put lostEntries m (entryAt dropped′ bests′ leasts′ words′) }) e
+    ∙ ap {B = Card} (λ (m : ℕ). record { count = m; entries = put lostEntries m (cardEntryAt dropped′ bests′ leasts′ words′) }) e

@@ -33,12 +33,12 @@ unfoldable pub averagesOf : ℕ → ℕ → ℕ → Averages
 averagesOf best least words = record { best = averageOf best words; least = averageOf least words }
 
 -- a state that no round dropped is kept
-unfoldable pub entryOf : ℕ → ℕ → ℕ → ℕ → Entry
-entryOf round best least words = cond (eqb round 0) (record { prospect = Worth (averagesOf best least words) }) lostEntry
+unfoldable pub cardEntry : ℕ → ℕ → ℕ → ℕ → Entry
+cardEntry round best least words = cond (eqb round 0) (record { prospect = Worth (averagesOf best least words) }) lostEntry
 
 -- the entry of state s
-unfoldable pub entryAt : List ℕ → List ℕ → List ℕ → ℕ → ℕ → Entry
-entryAt dropped bests leasts words s = entryOf (getD dropped s 0) (getD bests s 0) (getD leasts s 0) words
+unfoldable pub cardEntryAt : List ℕ → List ℕ → List ℕ → ℕ → ℕ → Entry
+cardEntryAt dropped bests leasts words s = cardEntry (getD dropped s 0) (getD bests s 0) (getD leasts s 0) words
 
 -- every entry lost
 unfoldable pub lostEntries : List Entry
@@ -49,4 +49,4 @@ lostCard = record { count = 0; entries = lostEntries }
 
 -- the card of n states
 unfoldable pub cardOf : List ℕ → List ℕ → List ℕ → ℕ → ℕ → Card
-cardOf dropped bests leasts words n = record { count = n; entries = put lostEntries n (entryAt dropped bests leasts words) }
+cardOf dropped bests leasts words n = record { count = n; entries = put lostEntries n (cardEntryAt dropped bests leasts words) }

@@ -7,7 +7,7 @@ use native.Mathlib.Omega.{arith}
 use lib.ListN.{length-set}
 use lib.Seq.{sets}
 use Rattle.card_words.specs.Meaning.CardWords.{prospectWords, entryWords}
-use Rattle.card_words.specs.Model.Numbers.{Number}
+use Rattle.card_words.specs.Model.CardNumbers.{Number}
 use Rattle.card.specs.declared.Prospect.{Prospect}
 use Rattle.card.specs.declared.Prospect.the-variants.{Lost, Worth}
 use Rattle.card.specs.declared.Entry.{Entry}

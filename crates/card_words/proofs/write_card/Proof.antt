@@ -7,7 +7,7 @@ use Rattle.records.specs.Meaning.Limits.{maxStates}
 use Rattle.records.specs.Laws.Stores.{Blocks, no-block, same-blocks, more-blocks, all-blocks}
 use Rattle.card.specs.Meaning.Card.{lostEntry}
 use Rattle.card_words.specs.Meaning.CardWords.{entryWords, cardWords}
-use Rattle.card_words.specs.Laws.CardWords.{length-entry}
+use Rattle.card_words.specs.Laws.CardWords.{length-words}
 use Rattle.card_words.proofs.write_card.Statement.{statement}
 use Rattle.card_words.proofs.write_card.Tie as tie
 
@@ -66,7 +66,7 @@ loop-less c = omega arith
 loop-again : tie.Need-loop-again Inv-loop μ-loop
 loop-again c =
     let at = turn (stored c .before) .before in
-    (omega arith, more-blocks (at .loop .inv .1) (λ q. length-entry _) (stored c .put-entry .ensures))
+    (omega arith, more-blocks (at .loop .inv .1) (λ q. length-words _) (stored c .put-entry .ensures))
 
 same-length : tie.Need-same-length Inv-loop μ-loop
 same-length c = as-many (c .before)

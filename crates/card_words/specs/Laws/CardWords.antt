@@ -20,13 +20,13 @@ two-words : (p : Prospect) → length (prospectWords p) ≡ 2
 two-words Lost = refl
 two-words (Worth a) = refl
 
-pub length-entry : (e : Entry) → length (entryWords e) ≡ 2
+pub length-words : (e : Entry) → length (entryWords e) ≡ 2
 unfolding entryWords
-length-entry e = two-words (e .prospect)
+length-words e = two-words (e .prospect)
 
 pub length-card : (card : Card) → length (cardWords card) ≡ cardLength
 unfolding cardWords
-length-card card = ap suc (length-cat 2 maxStates _ (λ s h. length-entry _))
+length-card card = ap suc (length-cat 2 maxStates _ (λ s h. length-words _))
 
 -- all ones are no number
 all-ones : ofBits binary64 lostWord ≡ nan

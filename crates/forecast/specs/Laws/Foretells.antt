@@ -32,7 +32,7 @@ use Rattle.plan.specs.Laws.Solved.{pow-pow}
 use Rattle.averages.specs.Meaning.Averages.{averageOf}
 use Rattle.averages.specs.Laws.Averages.{exactly, zero-bits}
 use Rattle.card.specs.Meaning.Card.{averagesIn, lostEntry}
-use Rattle.card.specs.Model.Card.{averagesOf, entryAt}
+use Rattle.card.specs.Model.Card.{averagesOf, cardEntryAt}
 use Rattle.card.specs.Laws.Card.{entry-averages, card-count, card-at, card-past}
 use Rattle.card.specs.declared.Averages.{Averages}
 use Rattle.card.specs.declared.Prospect.{Prospect}
@@ -42,7 +42,7 @@ use Rattle.card.specs.declared.Card.{Card}
 use Rattle.card.specs.declared.Entry.{Entry}
 use Rattle.forecast.specs.Meaning.Forecast.{KeptState, ExactAverage, WorthOf, MostEarned}
 use Rattle.forecast.specs.Model.Forecast.{leastAt, bestsOf, leastsOf, forecastCard}
-use Rattle.forecast.specs.Laws.Sums.{sum-earned, best-is, least-best, best-most, least-sum-most}
+use Rattle.forecast.specs.Laws.Sums.{sum-earned, best-is, least-best, best-sum-most, least-sum-most}
 use Rattle.forecast.specs.Promises.Forecast.{saysOf, Foretells}
 
 -- ---- a kept state
@@ -69,7 +69,7 @@ module _ (d : Decoded) (ok : SheetOk d) where
     unfolding averagesOf
     worth-of t kept =
         record {
-          best-average = average-is _ (best-most d ok t);
+          best-average = average-is _ (best-sum-most d ok t);
           least-average = average-is _ (least-sum-most d ok t);
           best-earned =
               subst (MostEarned d (d .horizon) t) (best-is d (d .horizon) t) (sum-earned d fits largest (d .horizon) t kept);
@@ -97,7 +97,7 @@ module _ (d : Decoded) (ok : SheetOk d) where
     module _ (k : ℕ) (low : k < stateCount d) where
       said : averagesIn (saysOf (forecastCard d) k)
           ≡ cond (isIn (droppedOf d) k) (some (averages k)) none
-      unfolding forecastCard entryAt bestsOf leastsOf isIn
+      unfolding forecastCard cardEntryAt bestsOf leastsOf isIn
       said =
           ap (λ (e : Entry). averagesIn (e .prospect))
           (card-at (droppedOf d) (bestsOf d) (leastsOf d) (inputsOf d ^ d .horizon) (stateCount d) k low (omega arith))

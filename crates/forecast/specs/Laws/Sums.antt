@@ -32,7 +32,7 @@ use Rattle.plan.specs.Laws.Playing.{may-is, next-inside, next-lands, earns-is}
 use Rattle.plan.specs.Laws.Reaching.{Winning}
 use Rattle.plan.specs.Laws.SamePlan.{held, HoldsSteps, Stored, may-agree, next-agree, earns-agree}
 use Rattle.plan.specs.Laws.Solved.{sheet-horizon, words-most}
-use Rattle.forecast.specs.Meaning.Forecast.{Earned, KeptState, SumsBy, BestSums}
+use Rattle.forecast.specs.Meaning.Forecast.{EarnedBy, KeptState, SumsBy, BestSums}
 use Rattle.forecast.specs.Model.Forecast.{sumAt, leastAt}
 
 -- ---- over the table that work memory holds
@@ -118,7 +118,7 @@ module _ (d : Decoded) (fits : stateCount d ≤ maxStates) where
         }
 
     -- from it, the sum is what ways of answering earn
-    pub sum-earned : (h : ℕ) (t : List ℕ) → KeptState d t → Earned R d h t (sumAt pick d h t)
+    pub sum-earned : (h : ℕ) (t : List ℕ) → KeptState d t → EarnedBy R d h t (sumAt pick d h t)
     sum-earned h t k =
         ways.earned x (List ℕ) (inputsOf d) (outputsOf d) (advance d) (mayAt d) (reward d) (Allowed d) (Winning d) live stays decides
         h t (winning t k)
@@ -154,8 +154,8 @@ best-sums-by d fits =
     }
 
 -- the sums of a sheet in bounds are at most 2 ^ 53
-pub best-most : (d : Decoded) → SheetOk d → (t : List ℕ) → bestAt d (d .horizon) t ≤ 2 ^ 53
-best-most d ok t =
+pub best-sum-most : (d : Decoded) → SheetOk d → (t : List ℕ) → bestAt d (d .horizon) t ≤ 2 ^ 53
+best-sum-most d ok t =
     let h : ℕ = d .horizon in
     let most = value-most (List ℕ) (inputsOf d) (outputsOf d) (advance d) (mayAt d) (reward d) 2295 (λ u i o hi ho. reward-most d ok u i o) h t in
     let words : inputsOf d ^ h ≤ 2 ^ maxHorizon = words-most d h (sheet-horizon d (ok .horizon)) in
@@ -167,4 +167,4 @@ best-most d ok t =
     )
 
 pub least-sum-most : (d : Decoded) → SheetOk d → (t : List ℕ) → leastAt d (d .horizon) t ≤ 2 ^ 53
-least-sum-most d ok t = omega (arith, least-best d (d .horizon) t, best-most d ok t)
+least-sum-most d ok t = omega (arith, least-best d (d .horizon) t, best-sum-most d ok t)

@@ -16,15 +16,15 @@ use Rattle.card.specs.declared.Averages.{Averages}
 
 -- m is what some way of answering h inputs from the tuple t earns, added over all words of h inputs, and what every way earns stands to
 -- it as R says
-abbrev pub Earned : (ℕ → ℕ → Type 0) → Decoded → ℕ → List ℕ → ℕ → Type 0
-Earned R d h t m = ways.Earned (List ℕ) (inputsOf d) (outputsOf d) (advance d) (Allowed d) (reward d) R h t m
+abbrev pub EarnedBy : (ℕ → ℕ → Type 0) → Decoded → ℕ → List ℕ → ℕ → Type 0
+EarnedBy R d h t m = ways.Earned (List ℕ) (inputsOf d) (outputsOf d) (advance d) (Allowed d) (reward d) R h t m
 
 -- no way earns more; none earns less
 abbrev pub MostEarned : Decoded → ℕ → List ℕ → ℕ → Type 0
-MostEarned = Earned AtMost
+MostEarned = EarnedBy AtMost
 
 abbrev pub LeastEarned : Decoded → ℕ → List ℕ → ℕ → Type 0
-LeastEarned = Earned AtLeast
+LeastEarned = EarnedBy AtLeast
 
 -- a product state that is kept
 pub record KeptState (d : Decoded) (t : List ℕ) : Type 0 where

@@ -34,7 +34,7 @@ unfoldable pub forecastCard : Decoded → Card
 forecastCard d = cardOf (droppedOf d) (bestsOf d) (leastsOf d) (inputsOf d ^ d .horizon) (stateCount d)
 
 -- work memory that is long enough for every sheet
-pub record Room (tuples cells dropped gains bonuses bests leasts highs lows : List ℕ) : Type 0 where
+pub record ForecastRoom (tuples cells dropped gains bonuses bests leasts highs lows : List ℕ) : Type 0 where
   pub tuples-long : tuplesLength ≤ length tuples
   pub cells-long : cellsLength ≤ length cells
   pub dropped-long : linksLength ≤ length dropped

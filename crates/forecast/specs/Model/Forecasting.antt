@@ -13,6 +13,6 @@ use Rattle.forecast.specs.Model.Forecast.{forecastCard}
 use Rattle.forecast.specs.declared.making.Forecasting.{Forecasting}
 
 -- the opening's number, and the sheet's card; on a refusal no state and every entry lost
-pub record Answers (work : Bool) (s : List ℕ) (r : Forecasting) : Type 0 where
+pub record AnswersForecast (work : Bool) (s : List ℕ) (r : Forecasting) : Type 0 where
   pub number : verdictNumber (r .verdict) ≡ openingNumber work s
   pub card-is : r .card ≡ cond (eqb (verdictNumber (r .verdict)) 0) (forecastCard (sheetOf s)) lostCard

@@ -23,7 +23,7 @@ use Rattle.card.specs.declared.Card.{Card}
 use Rattle.card.specs.declared.Prospect.{Prospect}
 use Rattle.forecast.specs.Meaning.Forecast.{BestSums, LeastSums, WorthOf}
 use Rattle.forecast.specs.Model.Forecast.{leastAt, forecastCard}
-use Rattle.forecast.specs.Model.Forecasting.{Answers}
+use Rattle.forecast.specs.Model.Forecasting.{AnswersForecast}
 use Rattle.forecast.specs.declared.making.Forecasting.{Forecasting}
 
 -- ---- work memory
@@ -65,7 +65,7 @@ pub record Unforetold (card : Card) : Type 0 where
 -- ---- the promise: `lent` are the lengths of the work memory
 
 pub record MakesForecast (s lent : List ℕ) (r : Forecasting) : Type 0 where
-  pub answers : Answers (longEnough forecastWork lent) s r
+  pub answers : AnswersForecast (longEnough forecastWork lent) s r
   pub opens : OpensSheet (longEnough forecastWork lent) s (verdictNumber (r .verdict))
   -- a card has 256 entries
   pub entries : length (r .card .entries) ≡ maxStates

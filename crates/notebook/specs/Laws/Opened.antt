@@ -50,8 +50,7 @@ use Rattle.game.specs.Model.Value.{value}
 use Rattle.game.specs.Model.Extreme.{bottom, valueBy}
 use Rattle.solve.specs.Model.Opening.{openingNumber}
 use Rattle.averages.specs.Meaning.Averages.{averageOf}
-use Rattle.card.specs.Model.Card as card
-use Rattle.card.specs.Model.Card.{averagesOf, entryOf, lostEntries, lostCard, cardOf}
+use Rattle.card.specs.Model.Card.{averagesOf, cardEntry, cardEntryAt, lostEntries, lostCard, cardOf}
 use Rattle.card_words.specs.Meaning.CardWords.{entryWords, cardWords}
 use Rattle.forecast.specs.Model.Forecast.{bestsOf, leastsOf, forecastCard}
 use lib.Ieee as float
@@ -89,7 +88,7 @@ guards = tt
 
 -- sums, averages and the forecast card
 unfoldable pub forecasts : Unit {0}
-unfolding guards openingNumber rewardBy reward keeps keptAfter may value bottom valueBy bestsOf leastsOf averageOf float.round float.toBits averagesOf entryOf card.entryAt
+unfolding guards openingNumber rewardBy reward keeps keptAfter may value bottom valueBy bestsOf leastsOf averageOf float.round float.toBits averagesOf cardEntry cardEntryAt
     lostEntries lostCard cardOf forecastCard entryWords cardWords cardFront
 forecasts = tt
 

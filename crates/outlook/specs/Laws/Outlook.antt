@@ -56,11 +56,11 @@ module _ {R : ℕ → ℕ → Type 0} {pick : Pick} (x : Picks R pick) {g : Game
       ∙ sym (value-by-more ℕ (g .ins) (g .outs) (cellNext g) (mayGive g) (earns g) pick p k))
 
   -- so a round leaves the row for one step more
-  pub row-more : (memory : List ℕ) → n ≤ length memory → (p : ℕ) {factor : ℕ} {values : List ℕ} → values ≡ put memory n (tableValue pick g p)
+  pub outlook-more : (memory : List ℕ) → n ≤ length memory → (p : ℕ) {factor : ℕ} {values : List ℕ} → values ≡ put memory n (tableValue pick g p)
       → factor ≡ g .ins ^ p → {arrivals : List ℕ} → Prepared n (g .gains) values factor arrivals
       → {values' : List ℕ} → values' ≡ put values n (worthBy pick (bare g) arrivals factor)
       → values' ≡ put memory n (tableValue pick g (p + 1))
-  row-more memory room p {factor} {values} row words a f =
+  outlook-more memory room p {factor} {values} row words a f =
       let valued : (q : ℕ) → q < n → getD values q 0 ≡ tableValue pick g p q = λ q h.
       rw row (getD-put-front memory n (tableValue pick g p) q 0 h (omega arith)) in
       let worths : (k : ℕ) → k < n → worthBy pick g values factor k ≡ tableValue pick g (p + 1) k = λ k h.
@@ -102,8 +102,8 @@ module _ {g : Game} {n : ℕ} (s : SizedGame g n) where
   module _ {values : List ℕ} {factor : ℕ} (few : factor ≤ 2 ^ maxHorizon)
       (most : (k : ℕ) → k < n → getD values k 0 ≤ maxHorizon * 2295 * 2 ^ maxHorizon)
     where
-      pub row-fits : n ≤ length values → Valued n values factor
-      row-fits room = record { room = room; most = λ k h. omega (arith, most k h); factor-most = few }
+      pub values-fit : n ≤ length values → Valued n values factor
+      values-fit room = record { room = room; most = λ k h. omega (arith, most k h); factor-most = few }
 
       pub arrivals-fit : {arrivals : List ℕ} → Prepared n (g .gains) values factor arrivals → Valued n arrivals factor
       unfolding arrival

@@ -4,7 +4,7 @@ use Prim.Native.Nat.{_-_, _≤_}
 use native.Mathlib.Omega.{arith}
 use Rattle.records.specs.Model.Lists.{put}
 use Rattle.records.specs.Laws.Lists.{put-none, put-next}
-use Rattle.card.specs.Model.Card.{lostEntries, lostCard, entryAt, cardOf}
+use Rattle.card.specs.Model.Card.{lostEntries, lostCard, cardEntryAt, cardOf}
 use Rattle.card.specs.declared.Card.{Card}
 use borrow.Author.Needs.{needs}
 use Rattle.card.proofs.Card.of.Statement.{statement}
@@ -12,7 +12,7 @@ use Rattle.card.proofs.Card.of.Tie as tie
 
 abbrev Inv-loop : tie.InvT-loop
 Inv-loop dropped bests leasts words n card₀ s₀ card s =
-    (s ≤ n) × (card .entries ≡ put lostEntries s (entryAt dropped bests leasts words))
+    (s ≤ n) × (card .entries ≡ put lostEntries s (cardEntryAt dropped bests leasts words))
 
 abbrev μ-loop : tie.MeasureT-loop
 μ-loop dropped bests leasts words n card₀ s₀ card s = n - s
@@ -66,7 +66,7 @@ loop-less : tie.Need-loop-less Inv-loop μ-loop
 loop-less c = omega arith
 
 loop-again : tie.Need-loop-again Inv-loop μ-loop
-unfolding entryAt
+unfolding cardEntryAt
 loop-again c = (omega arith, put-next _ _ _ (turn (c .before) .before .loop .inv .1) (c .entry-at .ensures))
 
 returns : tie.Need-returns Inv-loop μ-loop

@@ -4,7 +4,7 @@ use native.Mathlib.Omega.{arith}
 use Rattle.sheet.specs.declared.layout.Verdict.{Verdict}
 use Rattle.solve.specs.Model.Opening.{Opened, Opens}
 use Rattle.plan.specs.Laws.Planned.{playable}
-use Rattle.forecast.specs.Model.Forecast.{Room}
+use Rattle.forecast.specs.Model.Forecast.{ForecastRoom}
 use Rattle.forecast.proofs.Answered.{answers-refused, answers-made}
 use borrow.Author.Needs.{needs}
 use Rattle.forecast.proofs.making.make_with.Statement.{statement}
@@ -49,7 +49,7 @@ ready c = subst (Says (judged c)) (c .enum-told .given .1) (judged c .open-sheet
 long : (c : tie.After-enum-told) →
     let a = entry (judged c) .args in
     let after = judged c .open-sheet .last .1 .1 in
-    Room (after .0) (after .1 .0) (after .1 .1 .0) (a .gains .now) (a .bonuses .now) (a .bests .now) (a .leasts .now) (a .highs .now)
+    ForecastRoom (after .0) (after .1 .0) (after .1 .1 .0) (a .gains .now) (a .bonuses .now) (a .bests .now) (a .leasts .now) (a .highs .now)
     (a .lows .now)
 long c =
     let w = entry (judged c) .pre (ready c .long) in

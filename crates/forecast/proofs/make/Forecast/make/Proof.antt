@@ -5,7 +5,7 @@ use mathlib.Core.List.{List}
 use Prim.Native.Nat.{ℕ}
 use native.Mathlib.Omega.{arith}
 use Rattle.records.specs.Meaning.Numbers.{zeros}
-use Rattle.forecast.specs.Model.Forecasting.{Answers}
+use Rattle.forecast.specs.Model.Forecasting.{AnswersForecast}
 use Rattle.forecast.specs.Promises.Forecast.{MakesForecast}
 use Rattle.forecast.proofs.Promise.{forecast-promise}
 use Rattle.forecast.proofs.Answered.{lengths, work-room}
@@ -62,7 +62,7 @@ promise : (c : tie.After-make-with) →
 promise c =
     let start = entered (tested c) .before in
     forecast-promise (work start) (λ k. omega (arith, entered (tested c) .shared-slice-known .given k))
-    (subst (λ (b : Bool). Answers b (start .args .sheet .now) (c .make-with .result)) (tested c .work-ok .ensures) (c .make-with .ensures))
+    (subst (λ (b : Bool). AnswersForecast b (start .args .sheet .now) (c .make-with .result)) (tested c .work-ok .ensures) (c .make-with .ensures))
 
 work-ok-requires : tie.Need-work-ok-requires
 work-ok-requires c κs = tt

@@ -9,12 +9,12 @@ use lib.Dec.{eqb}
 use Rattle.records.specs.Laws.Tests.{by-test}
 use Rattle.averages.specs.Meaning.Averages.{Exactly}
 use Rattle.averages.specs.Laws.Averages.{average-number, exact-number}
-use Rattle.card.specs.Model.Card.{averagesOf, entryOf, entryAt, lostCard, cardOf}
+use Rattle.card.specs.Model.Card.{averagesOf, cardEntry, cardEntryAt, lostCard, cardOf}
 use Rattle.card.specs.Laws.Card.{entry-kept, entry-lost, lost-at, card-at, card-past}
 use Rattle.card.specs.declared.Averages.{Averages}
 use Rattle.card.specs.declared.Prospect.the-variants.{Worth}
 use Rattle.card.specs.declared.Entry.{Entry}
-use Rattle.card_words.specs.Model.Numbers.{Number, Numbers}
+use Rattle.card_words.specs.Model.CardNumbers.{Number, AllNumbers}
 
 -- averages that are exact
 pub exact-averages : (a : Averages) (best least words : ℕ) → Exactly (a .best) best words → Exactly (a .least) least words
@@ -31,16 +31,16 @@ worth-number : (best least words : ℕ) → Number (Worth (averagesOf best least
 unfolding averagesOf
 worth-number best least words = (average-number best words, average-number least words)
 
-entry-number : (round best least words : ℕ) → Number (entryOf round best least words .prospect)
+entry-number : (round best least words : ℕ) → Number (cardEntry round best least words .prospect)
 entry-number round best least words =
     by-test (eqb round 0) (λ k. same-number (entry-kept round best least words k) (worth-number best least words))
     (λ k. same-number (entry-lost round best least words k) tt)
 
-pub lost-numbers : Numbers (lostCard .entries)
+pub lost-numbers : AllNumbers (lostCard .entries)
 lost-numbers = record { each = λ s h. same-number (lost-at s) tt }
 
-pub card-numbers : (dropped bests leasts : List ℕ) (words n : ℕ) → Numbers (cardOf dropped bests leasts words n .entries)
-unfolding entryAt
+pub card-numbers : (dropped bests leasts : List ℕ) (words n : ℕ) → AllNumbers (cardOf dropped bests leasts words n .entries)
+unfolding cardEntryAt
 card-numbers dropped bests leasts words n =
     record {
       each = λ s h. elim (decLt s n) [

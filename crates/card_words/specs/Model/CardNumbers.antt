@@ -18,5 +18,5 @@ Number Lost = Unit
 Number (Worth a) = T (not (isNan (a .best))) × T (not (isNan (a .least)))
 
 -- of every state
-pub record Numbers (entries : List Entry) : Type 0 where
+pub record AllNumbers (entries : List Entry) : Type 0 where
   pub each : (s : ℕ) → s < maxStates → Number (getD entries s lostEntry .prospect)
