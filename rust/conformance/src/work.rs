@@ -60,8 +60,8 @@ slices! {
     Numbers numbers NUMBERS,
     Bests bests BESTS,
     Leasts leasts LEASTS,
-    BestArrivals highs HIGHS,
-    LeastArrivals lows LOWS,
+    Highs highs HIGHS,
+    Lows lows LOWS,
 }
 
 /// What the making of a supervisor is lent.
@@ -89,8 +89,8 @@ pub const FORECAST: &[Slice] = &[
     Slice::Bonuses,
     Slice::Bests,
     Slice::Leasts,
-    Slice::BestArrivals,
-    Slice::LeastArrivals,
+    Slice::Highs,
+    Slice::Lows,
 ];
 
 /// Work memory full of anything, each slice at times longer than its constant, by less than so much.
