@@ -55,19 +55,19 @@ extern "C" {
  * needs; the next two are the guard's and the forecast's, and then each has four of its own: 37,906, 43,666 and 46,738
  * bytes. It may hold anything before a call; after it, refused or not, all that was lent is zero. */
 
-#define HZ_WORK_TUPLES 256 /* uint64_t */
-#define HZ_WORK_CELLS 16384/* uint16_t */
-#define HZ_WORK_DROPPED 1545/* uint16_t */
-#define HZ_WORK_GAINS 256  /* uint16_t; guard and forecast */
-#define HZ_WORK_BONUSES 64 /* uint16_t; guard and forecast */
-#define HZ_WORK_VALUES 256 /* uint64_t; guard */
-#define HZ_WORK_ARRIVALS 256/* uint64_t; guard */
-#define HZ_WORK_ORDER 256  /* uint16_t; guard */
-#define HZ_WORK_NUMBERS 256/* uint16_t; guard */
-#define HZ_WORK_BESTS 256  /* uint64_t; forecast */
-#define HZ_WORK_LEASTS 256 /* uint64_t; forecast */
-#define HZ_WORK_HIGHS 256  /* uint64_t; forecast */
-#define HZ_WORK_LOWS 256   /* uint64_t; forecast */
+#define HZ_WORK_TUPLES 256   /* uint64_t */
+#define HZ_WORK_CELLS 16384  /* uint16_t */
+#define HZ_WORK_DROPPED 1545 /* uint16_t */
+#define HZ_WORK_GAINS 256    /* uint16_t; guard and forecast */
+#define HZ_WORK_BONUSES 64   /* uint16_t; guard and forecast */
+#define HZ_WORK_VALUES 256   /* uint64_t; guard */
+#define HZ_WORK_ARRIVALS 256 /* uint64_t; guard */
+#define HZ_WORK_ORDER 256    /* uint16_t; guard */
+#define HZ_WORK_NUMBERS 256  /* uint16_t; guard */
+#define HZ_WORK_BESTS 256    /* uint64_t; forecast */
+#define HZ_WORK_LEASTS 256   /* uint64_t; forecast */
+#define HZ_WORK_HIGHS 256    /* uint64_t; forecast */
+#define HZ_WORK_LOWS 256     /* uint64_t; forecast */
 
 /* The figures that the makers report, in elements; hz_list reports one. */
 
