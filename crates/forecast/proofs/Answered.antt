@@ -1,15 +1,12 @@
--- The answers of the maker: the opening's refusals, and the card of a sheet that was opened; and its work memory.
+-- The answers of the maker: the opening's refusals, and the card of a sheet that was opened.
 -- Assumes nothing.
 use mathlib.Core.Path.{_≡_, sym, ap, _∙_}
-use mathlib.Core.Bool.{Bool, true, false}
-use mathlib.Core.List.{List, [], _∷_}
+use mathlib.Core.Bool.{Bool, false}
+use mathlib.Core.List.{List}
 use Prim.Native.Nat.{ℕ}
 use native.Mathlib.Omega.{arith}
 use lib.Dec.{eqb}
-use lib.ListN.{length}
 use borrow.Author.Tests.{ne-eqb}
-use Rattle.records.specs.Meaning.Work.{longEnough}
-use Rattle.records.specs.Laws.Work.{Long, long-enough}
 use Rattle.sheet.specs.Meaning.Grounds.{groundNumber, verdictNumber}
 use Rattle.sheet.specs.Laws.Grounds.{some-number}
 use Rattle.sheet.specs.Model.Where.{decoded}
@@ -21,9 +18,8 @@ use Rattle.solve.specs.Model.Making.{sheetOf}
 use Rattle.solve.specs.Model.Opening.{OpenAnswer}
 use Rattle.card.specs.Model.Card.{lostCard}
 use Rattle.card.specs.declared.Card.{Card}
-use Rattle.forecast.specs.Model.Forecast.{forecastCard, ForecastRoom}
+use Rattle.forecast.specs.Model.Forecast.{forecastCard}
 use Rattle.forecast.specs.Model.Forecasting.{AnswersForecast}
-use Rattle.forecast.specs.Promises.Forecast.{forecastWork}
 
 module _ {ok : Bool} {s : List ℕ} {v : Verdict} {n kept : ℕ} (opening : OpenAnswer ok s v n kept) where
   -- a refusal
@@ -39,40 +35,3 @@ module _ {ok : Bool} {s : List ℕ} {v : Verdict} {n kept : ℕ} (opening : Open
       → AnswersForecast ok s (record { verdict = Accepted; card = card })
   answers-made sheet e same made =
       record { number = sym (ap verdictNumber e) ∙ opening .number; card-is = made ∙ ap forecastCard same }
-
--- ---- work memory
-
--- the slices' lengths in turn
-abbrev pub lengths : (tuples cells dropped gains bonuses bests leasts highs lows : List ℕ) → List ℕ
-lengths tuples cells dropped gains bonuses bests leasts highs lows =
-    length tuples
-    ∷ length cells
-    ∷ length dropped
-    ∷ length gains
-    ∷ length bonuses
-    ∷ length bests
-    ∷ length leasts
-    ∷ length highs
-    ∷ length lows
-    ∷ []
-
-pub work-room : (tuples cells dropped gains bonuses bests leasts highs lows : List ℕ)
-    → longEnough forecastWork (lengths tuples cells dropped gains bonuses bests leasts highs lows) ≡ true
-    → ForecastRoom tuples cells dropped gains bonuses bests leasts highs lows
-unfolding Long
-work-room tuples cells dropped gains bonuses bests leasts highs lows e =
-    let opening = long-enough forecastWork (lengths tuples cells dropped gains bonuses bests leasts highs lows) e in
-    let earned = opening .1 .1 .1 in
-    let summed = earned .1 .1 in
-    let arrived = summed .1 .1 in
-    record {
-      tuples-long = opening .0;
-      cells-long = opening .1 .0;
-      dropped-long = opening .1 .1 .0;
-      gains-long = earned .0;
-      bonuses-long = earned .1 .0;
-      bests-long = summed .0;
-      leasts-long = summed .1 .0;
-      highs-long = arrived .0;
-      lows-long = arrived .1 .0;
-    }

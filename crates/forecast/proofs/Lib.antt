@@ -1,4 +1,5 @@
 -- Laws that belong to no one function.
 pub mod Foretold
 pub mod Answered
+pub mod Lent
 pub mod Promise

@@ -8,7 +8,7 @@ use Rattle.records.specs.Meaning.Numbers.{zeros}
 use Rattle.forecast.specs.Model.Forecasting.{AnswersForecast}
 use Rattle.forecast.specs.Promises.Forecast.{MakesForecast}
 use Rattle.forecast.proofs.Promise.{forecast-promise}
-use Rattle.forecast.proofs.Answered.{lengths, work-room}
+use Rattle.forecast.proofs.Lent.{lengths, work-room}
 use Rattle.forecast.proofs.make.Forecast.make.Statement.{statement}
 use Rattle.forecast.proofs.make.Forecast.make.Tie as tie
 
