@@ -23,12 +23,13 @@ fn constant(name: &str) -> String {
 }
 
 /// Where the types of Rattle's that have sizes are.
-const TYPES: [(&str, &str); 6] = [
+const TYPES: [(&str, &str); 7] = [
     ("Limits", "crates/records/src/limits.rt"),
     ("Index", "crates/states/src/index.rt"),
     ("Supervisor", "crates/supervisor/src/make.rt"),
     ("Guard", "crates/guard/src/make.rt"),
     ("Forecast", "crates/forecast/src/make.rt"),
+    ("CardWords", "crates/card_words/src/lib.rt"),
     ("Report", "crates/report/src/lib.rt"),
 ];
 
@@ -80,7 +81,7 @@ fn defined() -> BTreeMap<String, usize> {
 #[test]
 fn what_is_longest_is_rattle_s() {
     assert_eq!(Guard::LISTING_BYTES_MOST, rattle("Report::TEXT"));
-    assert_eq!(calls::CARD_WORDS, value("1 + 2 * Limits::STATES"));
+    assert_eq!(calls::CARD_WORDS, rattle("CardWords::LENGTH"));
 }
 
 /// A length of work memory for each constant of Rattle's makers, and no other.

@@ -81,11 +81,6 @@ exactly sum k most few =
       | inr l ↦ shifted-exactly sum k sum 0 l few (omega arith) (sym (mul-one sum))
     ]
 
--- what is exact is a number
-pub exact-number : (x : Float) (sum words : ℕ) → Exactly x sum words → T (not (isNan x))
-unfolding isNan
-exact-number (fin s m e) sum words h = tt
-
 -- ---- bits
 
 odd-number : (d : ℕ) (s : Bool) (q k l : ℕ) → T (not (isNan (odd d s q k l)))

@@ -4,7 +4,7 @@ use mathlib.Core.Path.{_≡_, refl, ap, _∙_}
 use mathlib.Core.Bool.{true, false, cond}
 use mathlib.Core.List.{List}
 use mathlib.Core.Option.{none, some}
-use Prim.Native.Nat.{ℕ, zero, suc, _^_, _≤_, _<_}
+use Prim.Native.Nat.{ℕ, zero, suc, _≤_, _<_}
 use native.Mathlib.Omega.{arith}
 use lib.Dec.{eqb}
 use lib.ListN.{length, getD, replicate, length-replicate}
@@ -12,10 +12,9 @@ use Rattle.records.specs.Meaning.Limits.{maxStates}
 use Rattle.records.specs.Model.Lists.{put}
 use Rattle.records.specs.Laws.Tests.{by-test}
 use Rattle.records.specs.Laws.Lists.{length-put, put-ext, getD-put-front, getD-put-rest}
-use Rattle.averages.specs.Meaning.Averages.{Exactly}
 use Rattle.averages.specs.Laws.Averages.{exactly}
 use Rattle.card.specs.Meaning.Card.{averagesIn, lostEntry}
-use Rattle.card.specs.Model.Card.{Summed, averagesOf, cardEntry, cardEntryAt, lostEntries, lostCard, cardOf}
+use Rattle.card.specs.Model.Card.{averagesOf, cardEntry, cardEntryAt, lostEntries, lostCard, cardOf}
 use Rattle.card.specs.declared.Prospect.the-variants.{Worth}
 use Rattle.card.specs.declared.Entry.{Entry}
 use Rattle.card.specs.declared.Card.{Card}
@@ -35,12 +34,6 @@ module _ (round best least words : ℕ) where
   pub entry-averages : averagesIn (cardEntry round best least words .prospect) ≡ cond (eqb round 0) (some (averagesOf best least words)) none
   unfolding cardEntry
   entry-averages = by-test (eqb round 0) (λ k. rw k refl) (λ k. rw k refl)
-
--- both are exact over 2 ^ k words
-pub averages-exact : (best least k : ℕ) → Summed best least (2 ^ k) → k ≤ 24
-    → Exactly (averagesOf best least (2 ^ k) .best) best (2 ^ k) × Exactly (averagesOf best least (2 ^ k) .least) least (2 ^ k)
-unfolding averagesOf
-averages-exact best least k h few = (exactly best k (h .best-most) few, exactly least k (h .least-most) few)
 
 -- ---- every entry lost
 

@@ -1,4 +1,4 @@
--- The averages of a card that was made are numbers, and so are exact averages.
+-- The averages of a card that was made are numbers.
 -- Assumes nothing.
 use mathlib.Core.Path.{_≡_, sym, subst}
 use mathlib.Core.List.{List}
@@ -7,21 +7,12 @@ use native.Mathlib.Decide.{decLt}
 use native.Mathlib.Omega.{arith}
 use lib.Dec.{eqb}
 use Rattle.records.specs.Laws.Tests.{by-test}
-use Rattle.averages.specs.Meaning.Averages.{Exactly}
-use Rattle.averages.specs.Laws.Averages.{average-number, exact-number}
+use Rattle.averages.specs.Laws.Averages.{average-number}
 use Rattle.card.specs.Model.Card.{averagesOf, cardEntry, cardEntryAt, lostCard, cardOf}
 use Rattle.card.specs.Laws.Card.{entry-kept, entry-lost, lost-at, card-at, card-past}
-use Rattle.card.specs.declared.Averages.{Averages}
 use Rattle.card.specs.declared.Prospect.the-variants.{Worth}
 use Rattle.card.specs.declared.Entry.{Entry}
 use Rattle.card_words.specs.Model.CardNumbers.{Number, AllNumbers}
-
--- averages that are exact
-pub exact-averages : (a : Averages) (best least words : ℕ) → Exactly (a .best) best words → Exactly (a .least) least words
-    → Number (Worth a)
-exact-averages a best least words h k = (exact-number (a .best) best words h, exact-number (a .least) least words k)
-
--- ---- a card that was made
 
 -- equal entries
 same-number : {e f : Entry} → e ≡ f → Number (f .prospect) → Number (e .prospect)

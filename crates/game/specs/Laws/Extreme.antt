@@ -18,10 +18,6 @@ use Rattle.game.specs.Laws.Naming.{Names}
 
 -- ---- the smallest
 
-pub bottom-none : (p : ℕ → Bool) (f : ℕ → ℕ) → bottom 0 p f ≡ 0
-unfolding bottom
-bottom-none p f = refl
-
 pub bottom-more : (n : ℕ) (p : ℕ → Bool) (f : ℕ → ℕ)
     → bottom (n + 1) p f ≡ cond (p n) (cond (any n p) (min (bottom n p f) (f n)) (f n)) (bottom n p f)
 unfolding bottom
