@@ -10,6 +10,7 @@ pub mod Reachable
 pub mod Numbering
 pub mod Naming
 pub mod Rounds
+pub mod Forcing
 pub mod Value
 pub mod Extreme
 pub mod Ways

@@ -3,6 +3,7 @@ pub mod Proposal
 pub mod Words
 pub mod Strategy
 pub mod Survival
+pub mod Forcing
 pub mod History
 pub mod Supervisor
 pub mod Plans

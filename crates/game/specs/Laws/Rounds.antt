@@ -15,7 +15,8 @@ use Rattle.records.specs.Laws.Bounded.{all-at, all-of, all-not, any-at, any-of,
 use Rattle.game.specs.Meaning.Words.{Below, Word}
 use Rattle.game.specs.Meaning.Strategy.{Along, after}
 use Rattle.game.specs.Meaning.Survival.{Unbroken, Survives, Allowed}
-use Rattle.game.specs.Model.Moves.{Lasts, Forces}
+use Rattle.game.specs.Meaning.Forcing.{Forces}
+use Rattle.game.specs.Model.Moves.{Lasts}
 use Rattle.game.specs.Laws.Survival.{survives-lasts, survives-less, lasts-less, forces-more, forces-lasts}
 use Rattle.game.specs.Model.Choice.{Leads, choose}
 use Rattle.game.specs.Laws.Choice.{choose-leads}

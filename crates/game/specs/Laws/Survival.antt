@@ -13,6 +13,7 @@ use Rattle.game.specs.Laws.Words.{some-word, word-cons, word-tail}
 use Rattle.game.specs.Meaning.Strategy.{Along, first, after}
 use Rattle.game.specs.Laws.Strategy.{firstly, along-firstly}
 use Rattle.game.specs.Meaning.Survival as meaningSurvival
+use Rattle.game.specs.Meaning.Forcing as meaningForcing
 use Rattle.game.specs.Model.Moves as modelMoves
 
 module _ (S : Type 0) (I O : ℕ) (step : S → ℕ → ℕ → S) (ok : S → ℕ → ℕ → Bool) where
@@ -26,7 +27,7 @@ module _ (S : Type 0) (I O : ℕ) (step : S → ℕ → ℕ → S) (ok : S → �
   Lasts = modelMoves.Lasts S I O step ok
 
   abbrev Forces : ℕ → S → Type 0
-  Forces = modelMoves.Forces S I O step ok
+  Forces = meaningForcing.Forces S I O step ok
 
   -- ---- strategies and moves
 

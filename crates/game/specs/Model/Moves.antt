@@ -1,4 +1,4 @@
--- The safety game from move to move: lasting n inputs, and forcing a break within n steps.
+-- The safety game from move to move: lasting n inputs.
 -- Assumes nothing.
 use mathlib.Core.Path.{_≡_}
 use mathlib.Core.Bool.{Bool, true}
@@ -9,8 +9,3 @@ module _ (S : Type 0) (I O : ℕ) (step : S → ℕ → ℕ → S) (ok : S → �
   abbrev pub Lasts : ℕ → S → Type 0
   Lasts zero s = Unit {0}
   Lasts (suc n) s = (i : ℕ) → i < I → (o : ℕ) × (o < O) × (ok s i o ≡ true) × Lasts n (step s i o)
-
-  -- the inputs can force, within n steps and against every answer, a step that is broken
-  abbrev pub Forces : ℕ → S → Type 0
-  Forces zero s = ⊥
-  Forces (suc n) s = (i : ℕ) × (i < I) × ((o : ℕ) → o < O → ok s i o ≡ true → Forces n (step s i o))
