@@ -1,20 +1,19 @@
 -- Forcing a break: ways of giving inputs are moves, and the round that drops a state is the least number of steps.
 -- Assumes nothing.
-use mathlib.Core.Path.{_≡_, refl, sym, _∙_}
+use mathlib.Core.Path.{_≡_, refl, _∙_}
 use mathlib.Core.Logic.{_↔_}
 use mathlib.Core.Bool.{Bool, true, false, not, _||_}
 use mathlib.Core.List.{List, [], _∷_}
 use Prim.Native.Nat.{ℕ, zero, suc, _-_, _≤_, _<_}
 use native.Mathlib.Decide.{decLt}
 use native.Mathlib.Omega.{arith}
-use lib.Dec.{eqb, ltb}
-use borrow.Author.Tests.{eq-eqb, ne-eqb, lt-ltb, le-ltb}
+use lib.Dec.{eqb, leb}
+use borrow.Author.Tests.{eq-eqb, ne-eqb, le-leb, lt-leb}
 use Rattle.records.specs.Meaning.Bounded.{any}
-use Rattle.records.specs.Laws.Bounded.{any-at, any-not, any-none}
-use Rattle.records.specs.Laws.Tests.{both-ways, by-test, and-left, and-right}
+use Rattle.records.specs.Laws.Bounded.{any-not, any-none}
+use Rattle.records.specs.Laws.Tests.{both-ways, by-test}
 use Rattle.game.specs.Meaning.Words.{Word}
 use Rattle.game.specs.Meaning.Strategy.{after}
-use Rattle.game.specs.Meaning.Survival.{Survives}
 use Rattle.game.specs.Meaning.Forcing as meaningForcing
 use Rattle.game.specs.Laws.Words.{word-cons, word-tail}
 use Rattle.game.specs.Laws.Survival.{survives-less, forces-survives}
@@ -122,19 +121,19 @@ module _ (S : Type 0) (I O : ℕ) (step : S → ℕ → ℕ → S) (ok : S → �
   may = modelRounds.may S I O step ok
 
   -- after m of r rounds a state is kept exactly if none of the r dropped it, or a later one did
-  pub kept-by : (r m : ℕ) (s : S) → m ≤ r → keptAfter m s ≡ eqb (droppedBy r s) 0 || not (ltb (droppedBy r s) (suc m))
+  pub kept-by : (r m : ℕ) (s : S) → m ≤ r → keptAfter m s ≡ eqb (droppedBy r s) 0 || leb (suc m) (droppedBy r s)
   kept-by r m s h = go (droppedBy r s) refl
     where
-      go : (x : ℕ) → droppedBy r s ≡ x → keptAfter m s ≡ eqb x 0 || not (ltb x (suc m))
+      go : (x : ℕ) → droppedBy r s ≡ x → keptAfter m s ≡ eqb x 0 || leb (suc m) x
       go zero e = kept-less S I O step ok m r s h (kept-dropped S I O step ok r s ∙ eq-eqb _ 0 e)
       go (suc k) e =
           let x = dropped S I O step ok r k s e in
           rw (ne-eqb (suc k) 0 (λ z. omega arith))
           (elim (decLt k m) [
-            | yes u ↦ rw (lt-ltb (suc k) (suc m) (omega arith))
+            | yes u ↦ rw (lt-leb (suc m) (suc k) (omega arith))
                 (by-test (keptAfter m s)
                 (λ y. absurd (x .1 (survives-less S I O step ok (suc k) m s u (kept-survives S I O step ok m s .0 y)))) (λ y. y))
-            | no u ↦ rw (le-ltb (suc k) (suc m) (omega arith))
+            | no u ↦ rw (le-leb (suc m) (suc k) (omega arith))
                 (kept-survives S I O step ok m s .1 (survives-less S I O step ok m k s (omega arith) (x .0)))
           ])
 
