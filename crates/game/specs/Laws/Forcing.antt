@@ -179,3 +179,15 @@ module _ (S : Type 0) (I O : ℕ) (step : S → ℕ → ℕ → S) (ok : S → �
         soonest : (q : ℕ) → q < suc m → Forces q s → ⊥
         soonest q l f =
             forces-survives S I O step ok q s f (survives-less S I O step ok q m s (omega arith) (dropped S I O step ok r m s out .0))
+
+  -- ---- no other number and no other input is
+
+  pub forced-once : {s : S} {n m i j : ℕ} → Forced s n i → Forced s m j → (n ≡ m) × (i ≡ j)
+  forced-once {s} {n} {m} {i} {j} x y =
+      (same, order i j (λ l. y .lowest i l (rw same at (x .begins))) (λ l. x .lowest j l (rw same (y .begins))))
+    where
+      order : (a b : ℕ) → (a < b → ⊥) → (b < a → ⊥) → a ≡ b
+      order a b f g = elim (decLt a b) [ yes l ↦ absurd (f l) | no l ↦ elim (decLt b a) [ yes u ↦ absurd (g u) | no u ↦ omega arith ] ]
+
+      same : n ≡ m
+      same = order n m (λ l. y .soonest n l (x .forces)) (λ l. x .soonest m l (y .forces))

@@ -1,0 +1,138 @@
+-- The rows of the answer: their format and length, the input that they name, and that memories which agree give the same rows.
+-- Assumes nothing.
+use mathlib.Core.Path.{_≡_, refl, sym, ap, ap₂, _∙_}
+use mathlib.Core.Bool.{Bool, true, false, cond, not, _||_}
+use mathlib.Core.List.{List}
+use Prim.Native.Nat.{ℕ, zero, suc, _*_, _≤_, _<_, suc-le-suc}
+use native.Mathlib.Nat.{le-of-suc-le-suc}
+use native.Mathlib.Omega.{arith}
+use lib.Dec.{eqb, ltb, leb}
+use lib.ListN.{length, getD}
+use borrow.Author.Tests.{ltb-true, ltb-false, le-leb, lt-leb}
+use Rattle.records.specs.Meaning.Lists.{cat}
+use Rattle.records.specs.Model.Bounded.{least}
+use Rattle.records.specs.Laws.Bounded.{any-cong}
+use Rattle.records.specs.Laws.Lists.{getD-put-front, length-cat}
+use Rattle.records.specs.Laws.Tests.{by-test, or-right}
+use Rattle.rounds.specs.Model.TableRounds.{Steps, isIn, answered}
+use Rattle.rounds.specs.Laws.CellPlaces.{cell-in}
+use Rattle.rounds.specs.Laws.SameRounds.{in-agree, leads-agree}
+use Rattle.forced_rows.specs.Meaning.ForcedBytes.{forcedBytes, forcedAnswer, forcedLength}
+use Rattle.forced_rows.specs.Model.ForcedRows.{beforeRound, forcesAt, forcingInput, forcedRow}
+
+-- ---- the format
+
+module _ (cells dropped : List ℕ) (ins outs : ℕ) where
+  pub length-forced-row : (k : ℕ) → length (forcedRow cells dropped ins outs k) ≡ 3
+  unfolding forcedRow forcedBytes
+  length-forced-row k = refl
+
+  -- the rows are the answer that says for each state its round and its input
+  pub rows-answer : (n : ℕ)
+      → cat n (forcedRow cells dropped ins outs) ≡ forcedAnswer n (λ k. getD dropped k 0) (forcingInput cells dropped ins outs)
+  unfolding forcedRow forcedAnswer
+  rows-answer n = refl
+
+  pub length-forced-rows : (n : ℕ) → length (cat n (forcedRow cells dropped ins outs)) ≡ forcedLength n
+  unfolding forcedLength
+  length-forced-rows n = length-cat 3 n (forcedRow cells dropped ins outs) (λ k h. length-forced-row k)
+
+-- ---- the states that were in before a round
+
+before-at : (r : ℕ) (dropped : List ℕ) (k : ℕ) → k < length dropped
+    → getD (beforeRound r dropped) k 0 ≡ cond (ltb (getD dropped k 0) r) (getD dropped k 0) 0
+unfolding beforeRound
+before-at r dropped k h = getD-put-front dropped (length dropped) _ k 0 h h
+
+-- the kept ones, and those that it or a later round dropped
+pub before-in : (r : ℕ) (dropped : List ℕ) (k : ℕ) → k < length dropped
+    → isIn (beforeRound r dropped) k ≡ eqb (getD dropped k 0) 0 || leb r (getD dropped k 0)
+unfolding isIn
+before-in r dropped k h =
+    let by : ℕ = getD dropped k 0 in
+    rw (before-at r dropped k h)
+    (by-test (ltb by r)
+    (λ y. rw (y, lt-leb r by (ltb-true by r y)) (none (eqb by 0)))
+    (λ y. rw y (sym (or-right (eqb by 0) (leb r by) (le-leb r by (ltb-false by r y))))))
+  where
+    none : (b : Bool) → b ≡ b || false
+    none true = refl
+    none false = refl
+
+-- ---- the lowest input
+
+-- m is the lowest number below n that passes the test
+pub record Lowest (p : ℕ → Bool) (n m : ℕ) : Type 0 where
+  pub low : m < n
+  pub hit : p m ≡ true
+  pub none : (j : ℕ) → j < m → p j ≡ false
+
+first-hit : (n : ℕ) (p : ℕ → Bool) → p 0 ≡ true → Lowest p (suc n) 0
+first-hit n p e = record { low = omega arith; hit = e; none = λ j l. absurd (omega arith) }
+
+later-hit : (n : ℕ) (p : ℕ → Bool) {m : ℕ} → p 0 ≡ false → Lowest (λ k. p (suc k)) n m → Lowest p (suc n) (suc m)
+later-hit n p {m} e rest = record { low = suc-le-suc (rest .low); hit = rest .hit; none = none }
+  where
+    none : (j : ℕ) → j < suc m → p j ≡ false
+    none zero l = e
+    none (suc j) l = rest .none j (le-of-suc-le-suc l)
+
+-- `least` is, if any passes
+least-lowest : (n : ℕ) (p : ℕ → Bool) (i : ℕ) → i < n → p i ≡ true → Lowest p n (least n p)
+unfolding least
+least-lowest zero p i h e = absurd (omega arith)
+least-lowest (suc n) p zero h e = rw e (first-hit n p e)
+least-lowest (suc n) p (suc i) h e =
+    by-test (p 0) (λ y. rw y (first-hit n p y))
+    (λ y. rw y (later-hit n p y (least-lowest n (λ k. p (suc k)) i (le-of-suc-le-suc h) e)))
+
+least-cong : (n : ℕ) (p q : ℕ → Bool) → ((i : ℕ) → i < n → p i ≡ q i) → least n p ≡ least n q
+unfolding least
+least-cong zero p q e = refl
+least-cong (suc n) p q e =
+    rw (e 0 (omega arith), least-cong n (λ k. p (suc k)) (λ k. q (suc k)) (λ k h. e (suc k) (suc-le-suc h)))
+
+module _ (cells dropped : List ℕ) (ins outs k : ℕ) where
+  -- a kept state gets 0
+  pub forcing-kept : isIn dropped k ≡ true → forcingInput cells dropped ins outs k ≡ 0
+  unfolding forcingInput
+  forcing-kept kept = rw kept
+
+  -- another the lowest input that forces, if there is one
+  pub forcing-lost : isIn dropped k ≡ false → forcingInput cells dropped ins outs k ≡ least ins (forcesAt cells dropped ins outs k)
+  unfolding forcingInput
+  forcing-lost lost = rw lost
+
+  pub forcing-lowest : isIn dropped k ≡ false → (i : ℕ) → i < ins → forcesAt cells dropped ins outs k i ≡ true
+      → Lowest (forcesAt cells dropped ins outs k) ins (forcingInput cells dropped ins outs k)
+  forcing-lowest lost i h e = rw (forcing-lost lost) (least-lowest ins (forcesAt cells dropped ins outs k) i h e)
+
+-- ---- memories that agree in the n states
+
+module _
+    {cells : List ℕ} {n ins outs : ℕ} (table : Steps cells n ins outs)
+    (others : List ℕ) (same : (at : ℕ) → at < n * (ins * outs) → getD cells at 0 ≡ getD others at 0)
+    (a b : List ℕ) (entries : (q : ℕ) → q < n → getD a q 0 ≡ getD b q 0) (room : n ≤ length a) (others-room : n ≤ length b)
+  where
+    before-agree : (r q : ℕ) → q < n → getD (beforeRound r a) q 0 ≡ getD (beforeRound r b) q 0
+    before-agree r q h =
+        before-at r a q (omega arith)
+        ∙ ap (λ (x : ℕ). cond (ltb x r) x 0) (entries q h)
+        ∙ sym (before-at r b q (omega arith))
+
+    forces-agree : (k i : ℕ) → k < n → i < ins → forcesAt cells a ins outs k i ≡ forcesAt others b ins outs k i
+    unfolding forcesAt answered
+    forces-agree k i hk hi =
+        rw (entries k hk)
+        (ap not (any-cong outs _ _ (λ o ho.
+        leads-agree table others same (beforeRound (getD b k 0) a) (beforeRound (getD b k 0) b) (before-agree (getD b k 0)) _
+        (cell-in table hk hi ho))))
+
+    forcing-agree : (k : ℕ) → k < n → forcingInput cells a ins outs k ≡ forcingInput others b ins outs k
+    unfolding forcingInput
+    forcing-agree k h = rw (in-agree n a b entries k h, least-cong ins _ _ (λ i hi. forces-agree k i h hi))
+
+    -- the rows are the same
+    pub forced-agree : (k : ℕ) → k < n → forcedRow cells a ins outs k ≡ forcedRow others b ins outs k
+    unfolding forcedRow
+    forced-agree k h = ap₂ forcedBytes (entries k h) (forcing-agree k h)
