@@ -3,5 +3,6 @@ pub mod NumberedGame
 pub mod Entries
 pub mod StateGrounds
 pub mod Solving
+pub mod RefusalOrder
 pub mod Judging
 pub mod Opening

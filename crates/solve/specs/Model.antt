@@ -2,4 +2,5 @@
 pub mod Steps
 pub mod Solve
 pub mod Making
+pub mod SolvingSheet
 pub mod Opening

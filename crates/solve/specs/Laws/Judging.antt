@@ -1,7 +1,7 @@
 -- How a maker's answers come about: by the sheet's refusals, by 7, 8 and 9, and by a table; and what they then mean.
 -- `work` says that the work memory is long enough, `before` and `after` are the result memory.
 -- Assumes nothing.
-use mathlib.Core.Path.{_≡_, refl, sym, ap, _∙_, subst}
+use mathlib.Core.Path.{_≡_, refl, sym, _∙_, subst}
 use mathlib.Core.Bool.{Bool, true, false}
 use mathlib.Core.List.{List}
 use Prim.Native.Nat.{ℕ, zero, suc, _≤_, _<_}
@@ -24,8 +24,6 @@ use Rattle.sheet.specs.Laws.Most.{number-most}
 use Rattle.sheet.specs.Promises.Reader.{Reads}
 use Rattle.sheet.specs.declared.layout.Refusal.{Refusal}
 use Rattle.sheet.specs.declared.layout.Refusal.the-variants as ground
-use Rattle.sheet.specs.declared.layout.Verdict.the-variants as verdict
-use Rattle.sheet.specs.declared.layout.Reading.{Reading}
 use Rattle.product.specs.Model.ProductNumbering.{stateCount}
 use Rattle.rounds.specs.Model.TableRounds.{isIn}
 use Rattle.solve.specs.Meaning.Allowed.{TooMany, IsSheet, Accepted}
@@ -79,15 +77,7 @@ module _ (d : Decoded) (size room : ℕ) where
 -- ---- judging a sheet in bounds
 
 module _ (table : Decoded → List ℕ) (stateCounts : Decoded → ℕ) (d : Decoded) (before : List ℕ) where
-  -- too many product states
-  pub judges-many : maxStates < stateCount d → Judges table stateCounts d before (Refused ground.TooManyStates) before
-  judges-many h = record { number = sym (number-many d _ _ h); size = refl; states = refl; bytes = refl }
-
   module _ (fits : stateCount d ≤ maxStates) where
-    -- the start is dropped
-    pub judges-lost : isIn (droppedOf d) 0 ≡ false → Judges table stateCounts d before (Refused ground.Unrealizable) before
-    judges-lost e = record { number = sym (number-lost d _ _ fits e); size = refl; states = refl; bytes = refl }
-
     -- the result is too short
     pub judges-short : isIn (droppedOf d) 0 ≡ true → length before < length (table d)
         → Judges table stateCounts d before (Refused ground.ShortResult) before
@@ -101,41 +91,22 @@ module _ (table : Decoded → List ℕ) (stateCounts : Decoded → ℕ) (d : Dec
 -- ---- answering for any bytes
 
 module _ (table : Decoded → List ℕ) (stateCounts : Decoded → ℕ) (work : Bool) (s before : List ℕ) where
-  -- the work memory is too short
-  pub answers-short : work ≡ false → Answers table stateCounts work s before (Refused ground.ShortWork) before
-  unfolding makingNumber
-  answers-short e = record { number = rw e; size = refl; states = refl; bytes = refl }
-
-  -- the sheet is refused
-  pub answers-refused : work ≡ true → (x : Reading) → Reads s x → (g : Refusal) → x .verdict ≡ verdict.Refused g
+  -- a refusal by the number that is due
+  pub answers-refused : (g : Refusal) → groundNumber g ≡ makingNumber table work s (length before)
       → Answers table stateCounts work s before (Refused g) before
-  unfolding makingNumber
-  answers-refused w x reads g e =
+  answers-refused g e =
       let n = some-number g in
-      let number : suc (n .0) ≡ sheetNumber s = sym (n .1) ∙ sym (ap verdictNumber e) ∙ reads .number in
       let off : eqb (groundNumber g) 0 ≡ false = ne-eqb (groundNumber g) 0 (λ z. omega (arith, n .1)) in
-      record {
-        number = rw (w, ← number, n .1);
-        size = rw off;
-        states = rw off;
-        bytes = rw off;
-      }
+      record { number = e; size = rw off; states = rw off; bytes = rw off }
 
   -- the sheet is in bounds, and judged
-  pub answers-judged : work ≡ true → (x : Reading) → Reads s x → x .verdict ≡ verdict.Accepted
-      → (r : Made) (after : List ℕ) → Judges table stateCounts (decoded s (x .sheet)) before r after
-      → Answers table stateCounts work s before r after
-  unfolding makingNumber sheetOf
-  answers-judged w x reads e r after judges =
-      let number : sheetNumber s ≡ 0 = sym (reads .number) ∙ ap verdictNumber e in
-      let j : Judges table stateCounts (decoded s (reading s .sheet)) before r after =
-      subst (λ (y : Reading). Judges table stateCounts (decoded s (y .sheet)) before r after) (reads .whole) judges in
-      record {
-        number = rw (w, number) (j .number);
-        size = j .size;
-        states = j .states;
-        bytes = j .bytes;
-      }
+  pub answers-judged : work ≡ true → sheetNumber s ≡ 0 → (d : Decoded) → d ≡ sheetOf s → (r : Made) (after : List ℕ)
+      → Judges table stateCounts d before r after → Answers table stateCounts work s before r after
+  unfolding makingNumber
+  answers-judged w none d same r after judges =
+      let j : Judges table stateCounts (sheetOf s) before r after =
+      subst (λ (y : Decoded). Judges table stateCounts y before r after) same judges in
+      record { number = rw (w, none) (j .number); size = j .size; states = j .states; bytes = j .bytes }
 
 -- ---- what the refusals mean
 

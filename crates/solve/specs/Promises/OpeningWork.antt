@@ -2,7 +2,7 @@
 -- Assumes nothing.
 use mathlib.Core.List.{List, _∷_}
 use Prim.Native.Nat.{ℕ, _*_}
-use Rattle.records.specs.Meaning.Limits.{maxStates, maxLetters}
+use Rattle.records.specs.Meaning.Limits.{maxLetters}
 use Rattle.records.specs.Meaning.Work.{Slice, pairs, eights}
 use Rattle.states.specs.Model.Index.{forksAt}
 

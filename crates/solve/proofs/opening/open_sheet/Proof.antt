@@ -1,177 +1,118 @@
--- `solve::opening::open_sheet`: each judgement's answer, and what solving leaves where none refuses. Assumes nothing.
-use mathlib.Core.Path.{_≡_, ap, subst}
-use mathlib.Core.Bool.{true}
+-- `solve::opening::open_sheet`: the refusals of solving, then 8, and what solving leaves where there is none. Assumes nothing.
+use mathlib.Core.Path.{subst}
 use borrow.Author.Tests.{not-true, not-false}
-use Rattle.sheet.specs.Meaning.Grounds.{verdictNumber}
-use Rattle.sheet.specs.Model.Where.{Fits, decoded}
-use Rattle.solve.specs.Model.Solve.{Solution, Solves}
-use Rattle.solve.proofs.Opened.{opens-short, opens-refused, opens-many, opens-lost, opens-solved}
-use Rattle.solve.specs.declared.solving.Solved.{Solved}
+use Rattle.sheet.specs.declared.layout.Verdict.{Verdict}
+use Rattle.solve.specs.Model.SolvingSheet.{SolvedSheet, SolvesSheet}
+use Rattle.solve.proofs.Opened.{opens-unsolved, opens-lost, opens-solved}
 use borrow.Author.Needs.{needs}
 use Rattle.solve.proofs.opening.open_sheet.Statement.{statement}
 use Rattle.solve.proofs.opening.open_sheet.Tie as tie
 
 -- the places that the needs look back to
-abbrev start : tie.After-read → tie.Start
-start c = c .before .before .before .before .before
+abbrev entry : tie.After-solve-sheet → tie.Start
+entry c = c .before .before .before .before .before .before .before .before
 
-abbrev read : tie.Else1 → tie.After-read
-read c = c .before .before
+abbrev refused : tie.After-known-told → tie.After-solve-sheet
+refused c = c .before .before .before .before .before .before .before .before .before .before
 
-abbrev long : tie.After-enum-told → tie.Else1
-long c = c .before .before
+abbrev accepted : tie.After-enum-told → tie.After-solve-sheet
+accepted c = c .before .before .before .before .before .before .before .before .before
 
-abbrev asked : tie.After-solve-arg3 → tie.After-enum-told
-asked c = c .before .before .before
+abbrev lost : tie.After-refused2 → tie.After-enum-told
+lost c = c .before .before
 
-abbrev accepted : tie.After-solve → tie.After-enum-told
-accepted c = asked (c .before)
+abbrev opened : tie.Else1 → tie.After-enum-told
+opened c = c .before
 
-abbrev told : tie.After-refused2 → tie.Else1
-told c = c .before .before .before .before
+-- what solving says of a verdict
+abbrev Says : tie.After-solve-sheet → Verdict → Type 0
+Says c v =
+    let a = entry c .args in
+    let r = c .solve-sheet .result in
+    let after = c .solve-sheet .last .1 .1 in
+    SolvesSheet (a .ok) (a .s .now) v (r .sheet) (r .states) (r .kept) (r .start) (after .0) (after .1 .0) (after .1 .1 .0)
 
-abbrev many : tie.After-enum-told2 → tie.After-solve
-many c = c .before .before .before .before .before .before .before .before
+-- and where it accepts
+solved : (c : tie.After-enum-told) →
+    let a = entry (accepted c) .args in
+    let r = accepted c .solve-sheet .result in
+    let after = accepted c .solve-sheet .last .1 .1 in
+    SolvedSheet (a .ok) (a .s .now) (r .sheet) (r .states) (r .kept) (r .start) (after .0) (after .1 .0) (after .1 .1 .0)
+solved c = subst (Says (accepted c)) (c .enum-told .given .1) (accepted c .solve-sheet .ensures .0)
 
-abbrev solved : tie.After-known-told2 → tie.After-solve
-solved c = c .before .before .before .before .before .before .before .before .before
-
--- the work memory is long enough
-is-long : (c : tie.Else1) → start (read c) .args .ok ≡ true
-is-long c = not-false _ (c .if1 .left)
-
--- the sheet fits its layout
-fits : (c : tie.After-enum-told) → let at = read (long c) in Fits (start at .args .s .now) (at .read .result .sheet)
-fits c = read (long c) .read .ensures .fits (ap verdictNumber (c .enum-told .given .1))
-
--- what solving says of an answer, and of the one with the states
-abbrev Says : tie.After-solve → Solved → Type 0
-Says c r =
-    let at = read (long (accepted c)) in
-    let after = c .solve .last .1 .1 in
-    Solves (decoded (start at .args .s .now) (at .read .result .sheet)) r (after .0) (after .1 .0) (after .1 .1 .0)
-
-solution : (c : tie.After-known-told2) →
-    let at = read (long (accepted (solved c))) in
-    let found = c .before .states .given .0 in
-    let after = solved c .solve .last .1 .1 in
-    Solution (decoded (start at .args .s .now) (at .read .result .sheet)) (found .0) (found .1 .0) (found .1 .1 .0) (after .0)
-    (after .1 .0) (after .1 .1 .0)
-solution c = subst (Says (solved c)) (c .before .states .given .1) (solved c .solve .ensures .0)
-
-read-requires : tie.Need-read-requires
-read-requires c κs = tt
-
-refused-requires : tie.Need-refused-requires
-refused-requires c κs = tt
-
-returns : tie.Need-returns
-returns c = simp (c .refused .ensures) (opens-short (not-true _ (c .before .if1 .taken)))
+solve-sheet-requires : tie.Need-solve-sheet-requires
+solve-sheet-requires c κs = search needs
 
 enum-known-verdict : tie.Need-enum-known-verdict
 enum-known-verdict c = search needs
 
-refused-requires-2 : tie.Need-refused-requires-2
-refused-requires-2 c κs = tt
+refused-requires : tie.Need-refused-requires
+refused-requires c κs = tt
 
 enum-told : tie.Need-enum-told
 enum-told c = search needs
 
-solve-requires : tie.Need-solve-requires
-solve-requires c κs = let at = asked c in
-    (fits at, start (read (long at)) .pre (is-long (long at)))
-
-enum-told-2 : tie.Need-enum-told-2
-enum-told-2 c = search needs
-
-refused-requires-3 : tie.Need-refused-requires-3
-refused-requires-3 c κs = tt
-
-enum-known-states : tie.Need-enum-known-states
-enum-known-states c = search needs
-
-refused-requires-4 : tie.Need-refused-requires-4
-refused-requires-4 c κs = tt
+refused-requires-2 : tie.Need-refused-requires-2
+refused-requires-2 c κs = tt
 
 same-length : tie.Need-same-length
-same-length c = solved (c .before .before) .solve .kept .1 .1 .0
+same-length c = search needs
 
 same-length-2 : tie.Need-same-length-2
-same-length-2 c = solved (c .before .before) .solve .kept .1 .1 .1 .0
+same-length-2 c = search needs
 
 same-length-3 : tie.Need-same-length-3
-same-length-3 c = solved (c .before .before) .solve .kept .1 .1 .1 .1 .0
+same-length-3 c = search needs
+
+returns : tie.Need-returns
+returns c = simp (c .refused2 .ensures) (opens-lost (solved (lost c)) (search (not-true, c .before .if1 .taken)))
+
+same-length-4 : tie.Need-same-length-4
+same-length-4 c = search needs
+
+same-length-5 : tie.Need-same-length-5
+same-length-5 c = search needs
+
+same-length-6 : tie.Need-same-length-6
+same-length-6 c = search needs
 
 returns-2 : tie.Need-returns-2
 returns-2 c =
-    let at = accepted (solved (c .before .before)) in
-    let reader = read (long at) in
-    simp (c .refused4 .ensures)
-    (opens-lost (is-long (long at)) (reader .read .ensures) (at .enum-told .given .1) (solution (c .before .before))
-    (not-true _ (c .before .if2 .taken)))
-
-returns-3 : tie.Need-returns-3
-returns-3 c =
-    let at = told c in
-    simp (c .refused2 .ensures) (opens-refused (is-long at) (read at .read .ensures) _ (c .before .before .verdict .given .1))
-
-same-length-4 : tie.Need-same-length-4
-same-length-4 c = many (c .before) .solve .kept .1 .1 .0
-
-same-length-5 : tie.Need-same-length-5
-same-length-5 c = many (c .before) .solve .kept .1 .1 .1 .0
-
-same-length-6 : tie.Need-same-length-6
-same-length-6 c = many (c .before) .solve .kept .1 .1 .1 .1 .0
-
-returns-4 : tie.Need-returns-4
-returns-4 c =
-    let found = many (c .before) in
-    let at = accepted found in
-    simp (c .refused3 .ensures)
-    (opens-many (is-long (long at)) (read (long at) .read .ensures) (at .enum-told .given .1)
-    (subst (Says found) (c .before .enum-told2 .given .1) (found .solve .ensures .0)))
+    let at = refused (c .before) in
+    simp (c .refused .ensures)
+    (opens-unsolved _ (subst (Says at) (c .before .before .verdict .given .1) (at .solve-sheet .ensures .0)))
 
 same-length-7 : tie.Need-same-length-7
-same-length-7 c = solved (c .before) .solve .kept .1 .1 .0
+same-length-7 c = search needs
 
 same-length-8 : tie.Need-same-length-8
-same-length-8 c = solved (c .before) .solve .kept .1 .1 .1 .0
+same-length-8 c = search needs
 
 same-length-9 : tie.Need-same-length-9
-same-length-9 c = solved (c .before) .solve .kept .1 .1 .1 .1 .0
+same-length-9 c = search needs
 
-returns-5 : tie.Need-returns-5
-returns-5 c =
-    let at = accepted (solved (c .before)) in
-    opens-solved (is-long (long at)) (read (long at) .read .ensures) (at .enum-told .given .1) (fits at) (solution (c .before))
-    (not-false _ (c .if2 .left))
+returns-3 : tie.Need-returns-3
+returns-3 c = let at = opened c in
+    opens-solved (solved at) (at .enum-told .given .1) (accepted at .solve-sheet .ensures .1) (search (not-false, c .if1 .left))
 
 pub open-sheet-spec : {M : Type 1} → statement M
 open-sheet-spec =
     tie.close
     (tie.spec
-    read-requires
-    refused-requires
-    returns
+    solve-sheet-requires
     enum-known-verdict
-    refused-requires-2
+    refused-requires
     enum-told
-    solve-requires
-    enum-told-2
-    refused-requires-3
-    enum-known-states
-    refused-requires-4
+    refused-requires-2
     same-length
     same-length-2
     same-length-3
-    returns-2
-    returns-3
+    returns
     same-length-4
     same-length-5
     same-length-6
-    returns-4
+    returns-2
     same-length-7
     same-length-8
     same-length-9
-    returns-5)
+    returns-3)
