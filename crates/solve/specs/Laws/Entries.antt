@@ -168,19 +168,22 @@ module _ (d : Decoded) where
         (reachable-closed (List ℕ) (inputsOf d) (outputsOf d) (advance d) (unbroken d) (firstTuple d)) (stateCount d) settled-quiet t r in
         (λ e. x .0 (sym (number-kept t r) ∙ e), λ k. number-kept t r ∙ x .1 k)
 
-    -- a step of the table leads in when its output may be given after as many rounds
-    leads-may : (k i o : ℕ) → k < stateCount d → i < inputsOf d → o < outputsOf d
-        → leadsIn (cellsOf d) (droppedOf d) (cellAt (inputsOf d) (outputsOf d) k i o)
-        ≡ may (List ℕ) (inputsOf d) (outputsOf d) (advance d) (unbroken d) (stateCount d) (stateOf d k) i o
+    -- where the states that are in are those kept after r rounds, a step of the table leads in when its output may be given after as many
+    pub leads-after : (l : List ℕ) (r : ℕ)
+        → ((q : ℕ) → q < stateCount d
+        → isIn l q ≡ keptAfter (List ℕ) (inputsOf d) (outputsOf d) (advance d) (unbroken d) r (stateOf d q))
+        → (k i o : ℕ) → k < stateCount d → i < inputsOf d → o < outputsOf d
+        → leadsIn (cellsOf d) l (cellAt (inputsOf d) (outputsOf d) k i o)
+        ≡ may (List ℕ) (inputsOf d) (outputsOf d) (advance d) (unbroken d) r (stateOf d k) i o
     unfolding may
-    leads-may k i o hk hi ho =
-        leads-game sheet-steps (droppedOf d)
-        (λ q. keptAfter (List ℕ) (inputsOf d) (outputsOf d) (advance d) (unbroken d) (stateCount d) (stateOf d q)) in-kept k i o hk hi ho
+    leads-after l r kept k i o hk hi ho =
+        leads-game sheet-steps l
+        (λ q. keptAfter (List ℕ) (inputsOf d) (outputsOf d) (advance d) (unbroken d) r (stateOf d q)) kept k i o hk hi ho
         ∙ by-test (passes (cellsOf d) (inputsOf d) (outputsOf d) k i o)
         (λ y. rw (y, sym (pass-is k i o hk hi ho) ∙ y, numbers-name .lands k i o hk hi ho y))
         (λ y. rw (y, sym (pass-is k i o hk hi ho) ∙ y))
 
-    -- and so exactly if its output is allowed
+    -- so a step of the settled table leads in exactly if its output is allowed
     pub leads-iff : (t : List ℕ) → Reached d t → (i o : ℕ) → i < inputsOf d → o < outputsOf d
         → (leadsIn (cellsOf d) (droppedOf d) (cellAt (inputsOf d) (outputsOf d) (numberOf d t) i o) ≡ true) ↔ Allowed d t i o
     leads-iff t r i o hi ho =
@@ -189,7 +192,7 @@ module _ (d : Decoded) where
         t i o r hi ho in
         let e : leadsIn (cellsOf d) (droppedOf d) (cellAt (inputsOf d) (outputsOf d) (numberOf d t) i o)
         ≡ may (List ℕ) (inputsOf d) (outputsOf d) (advance d) (unbroken d) (stateCount d) t i o =
-        leads-may (numberOf d t) i o (reached-number d fits t .0 r) hi ho
+        leads-after (droppedOf d) (stateCount d) in-kept (numberOf d t) i o (reached-number d fits t .0 r) hi ho
         ∙ ap (λ (u : List ℕ). may (List ℕ) (inputsOf d) (outputsOf d) (advance d) (unbroken d) (stateCount d) u i o)
         (number-state d fits t r) in
         (λ y. x .0 (sym e ∙ y), λ a. e ∙ x .1 a)
