@@ -5,13 +5,9 @@ use mathlib.Core.Path.{_≡_, sym, _∙_, subst}
 use mathlib.Core.Bool.{Bool, true, false}
 use mathlib.Core.List.{List}
 use Prim.Native.Nat.{ℕ}
-use native.Mathlib.Omega.{arith}
-use lib.Dec.{eqb}
 use lib.ListN.{length}
-use borrow.Author.Tests.{ne-eqb}
 use Rattle.sheet.specs.Meaning.Decoded.{Decoded}
 use Rattle.sheet.specs.Meaning.Grounds.{groundNumber}
-use Rattle.sheet.specs.Laws.Grounds.{some-number}
 use Rattle.sheet.specs.Model.Where.{decoded}
 use Rattle.sheet.specs.declared.layout.Sheet.{Sheet}
 use Rattle.sheet.specs.declared.layout.Refusal.{Refusal}
@@ -22,21 +18,19 @@ use Rattle.solve.specs.Model.Solve.{Solution}
 use Rattle.solve.specs.Model.Making.{lostNumber, roomNumber, orderedNumber}
 use Rattle.solve.specs.Model.SolvingSheet.{solvingNumber, SolvedSheet, SolvingAnswer}
 use Rattle.solve.specs.Model.Opening.{Opened, Refuses, OpenAnswer}
-use Rattle.solve.specs.Laws.RefusalOrder.{ordered-refused, solved-start, solved-past, making-ordered, opening-ordered}
+use Rattle.solve.specs.Laws.OrderedNumber.{refused-off, ordered-refused, solved-start, solved-past, making-ordered, opening-ordered}
 use Rattle.solve.specs.Laws.Judging.{answers-refused, answers-judged}
 
 module _ {ok : Bool} {s : List ℕ} where
   -- a refusal by the number that is due whatever the table and the result memory
   refuses : (g : Refusal) → ((size : Decoded → ℕ) (room : ℕ) → groundNumber g ≡ orderedNumber lostNumber size ok s room)
       → Refuses ok s g × OpenAnswer ok s (Refused g) 0 0
-  refuses g e =
-      let n = some-number g in
-      let off : eqb (groundNumber g) 0 ≡ false = ne-eqb (groundNumber g) 0 (λ z. omega (arith, n .1)) in (
-        λ table counts before.
-            answers-refused table counts ok s before g
-            (e (λ d. length (table d)) (length before) ∙ sym (making-ordered table ok s (length before))),
-        record { number = e (λ d. 0) 0 ∙ sym (opening-ordered ok s); states-are = rw off; kept-are = rw off },
-      )
+  refuses g e = (
+    λ table counts before.
+        answers-refused table counts ok s before g
+        (e (λ d. length (table d)) (length before) ∙ sym (making-ordered table ok s (length before))),
+    record { number = e (λ d. 0) 0 ∙ sym (opening-ordered ok s); states-are = rw (refused-off g); kept-are = rw (refused-off g) },
+  )
 
   -- the sheet is not solved
   pub opens-unsolved : (g : Refusal) → groundNumber g ≡ solvingNumber ok s → Refuses ok s g × OpenAnswer ok s (Refused g) 0 0

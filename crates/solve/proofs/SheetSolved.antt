@@ -5,9 +5,7 @@ use mathlib.Core.Path.{_≡_, sym, ap, _∙_, subst}
 use mathlib.Core.Bool.{Bool, true, false}
 use mathlib.Core.List.{List}
 use Prim.Native.Nat.{ℕ, suc, _≤_, _<_}
-use native.Mathlib.Omega.{arith}
-use lib.Dec.{eqb}
-use borrow.Author.Tests.{lt-ltb, le-ltb, ne-eqb}
+use borrow.Author.Tests.{lt-ltb, le-ltb}
 use Rattle.records.specs.Meaning.Limits.{maxStates}
 use Rattle.sheet.specs.Meaning.Decoded.{Decoded}
 use Rattle.sheet.specs.Meaning.Grounds.{groundNumber, verdictNumber}
@@ -26,6 +24,7 @@ use Rattle.solve.specs.Model.Solve.{Solution}
 use Rattle.solve.specs.Model.Making.{sheetOf, manyNumber}
 use Rattle.solve.specs.Model.SolvingSheet.{solvingNumber, SolvedSheet, SolvingAnswer}
 use Rattle.solve.specs.Laws.Solving.{numbering-fits}
+use Rattle.solve.specs.Laws.OrderedNumber.{refused-off}
 
 -- what is promised of a refusal
 abbrev Unsolved : Bool → List ℕ → Refusal → Type 0
@@ -35,9 +34,7 @@ module _ {ok : Bool} {s : List ℕ} where
   -- it is the number that is due
   unsolved : (g : Refusal) → groundNumber g ≡ solvingNumber ok s → Unsolved ok s g
   unsolved g e =
-      let n = some-number g in
-      let off : eqb (groundNumber g) 0 ≡ false = ne-eqb (groundNumber g) 0 (λ z. omega (arith, n .1)) in
-      (e, record { number = e; states-are = rw off; kept-are = rw off; start-is = rw off })
+      (e, record { number = e; states-are = rw (refused-off g); kept-are = rw (refused-off g); start-is = rw (refused-off g) })
 
   -- the work memory is too short
   pub solves-short : ok ≡ false → Unsolved ok s ShortWork
