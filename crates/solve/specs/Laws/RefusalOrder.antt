@@ -92,6 +92,12 @@ module _
         (λ w z q. cases (sheetOf s) (λ h y. absurd (omega arith)) (λ f c y. absurd (place .not-nine (omega arith))) (λ f c l y. l)
         (λ f c l y. absurd (omega arith)))
 
+    -- no number above 7 but the call's own, 9 and 10
+    pub order-else : 7 < number → (number ≡ stop → ⊥) → (number ≡ 9 → ⊥) → (number ≡ 10 → ⊥) → ⊥
+    order-else above not-stop not-nine not-ten =
+        ordered-cases halt size work s room due (λ w q. not-ten q) (λ w y q. omega (arith, number-most s))
+        (λ w z q. cases (sheetOf s) (λ h y. omega arith) (λ f c y. not-stop (q ∙ y)) (λ f c l y. not-nine (q ∙ y)) (λ f c l y. omega arith))
+
     module _ (reads : Reads s (reading s)) (only : Only s) where
       read-none : (d : Decoded) → IsSheet s d → sheetNumber s ≡ 0
       read-none d x = sym (reads .number) ∙ reads .exactly .1 (d, x .in-bounds, x .bytes)

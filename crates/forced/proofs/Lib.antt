@@ -1,0 +1,4 @@
+-- Laws that belong to no one function.
+pub mod Answered
+pub mod Only
+pub mod Promise

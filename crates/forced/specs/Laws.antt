@@ -1,0 +1,2 @@
+-- Theorems that other crates and the sources cite.
+pub mod Shown

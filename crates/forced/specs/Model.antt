@@ -1,0 +1,2 @@
+-- Definitions that go the way the code goes.
+pub mod ForcedOfSheet
