@@ -3,6 +3,7 @@
 use board_bytes::numbers::report;
 use board_bytes::numbers::verdict_number;
 use card_words::write_card;
+use forced::make::Forcing;
 use forecast::make::Forecast;
 use guard::make::Guard;
 use report::Report;
@@ -15,7 +16,7 @@ ghost use Rattle.records.specs.Meaning.Numbers.{zeros};
 ghost use Rattle.board_bytes.specs.Meaning.BoardBytes.{boardLength};
 ghost use Rattle.board_bytes.specs.Promises.ByteCalls.{LoadCall, StepCall, RewindCall, UnloadCall};
 ghost use Rattle.card_words.specs.Meaning.CardWords.{cardLength};
-ghost use Rattle.hundlezoqa_c.specs.Promises.Library.{ReportsSupervisor, ReportsGuard, ReportsForecast, ReportsListing};
+ghost use Rattle.hundlezoqa_c.specs.Promises.Library.{ReportsSupervisor, ReportsGuard, ReportsForecast, ReportsForced, ReportsListing};
 
 // Makes a supervisor table.
 #[no_mangle]
@@ -135,6 +136,31 @@ pub extern "C" fn hz_forecast(
     write_card(made.card, card);
     let verdict = made.verdict;
     verdict_number(verdict)
+}
+
+// Shows how a break is forced.
+#[no_mangle]
+pub extern "C" fn hz_forced(
+    sheet: &[u8],
+    result: &mut [u8],
+    tuples: &mut [u64],
+    cells: &mut [u16],
+    dropped: &mut [u16],
+    figures: &mut [u64],
+) -> u32
+    requires { ⌜ 2 ≤ length (now figures) ⌝ }
+    ensures made { λ r. ⌜
+        ReportsForced (now (sheet .entry)) (now (result .entry))
+        (length (now (tuples .entry)) ∷ length (now (cells .entry)) ∷ length (now (dropped .entry)) ∷ []) (now (result .exit)) r
+        (now (figures .entry)) (now (figures .exit)) ⌝ }
+    ensures tuples { λ _. ⌜ now (tuples .exit) ≡ zeros (length (now (tuples .entry))) ⌝ }
+    ensures cells { λ _. ⌜ now (cells .exit) ≡ zeros (length (now (cells .entry))) ⌝ }
+    ensures dropped { λ _. ⌜ now (dropped .exit) ≡ zeros (length (now (dropped .entry))) ⌝ }
+{
+    let forced = Forcing::make(sheet, result, tuples, cells, dropped);
+    figures[0] = forced.length() as u64;
+    figures[1] = forced.states() as u64;
+    forced.number()
 }
 
 // Loads a table.

@@ -8,6 +8,9 @@ use lib.Seq.{sets}
 use Rattle.guard_table.specs.Meaning.Loadable.{loadable}
 use Rattle.listing_text.specs.Meaning.Listing.{listingOf}
 use Rattle.card_words.specs.Meaning.CardWords.{cardWords}
+use Rattle.forced.specs.Meaning.Answer.{playNumber, playLength, playStates}
+use Rattle.forced.specs.Promises.ForcedMaker.{MakesForced}
+use Rattle.forced.specs.declared.answer.Forced.{Forced}
 use Rattle.forecast.specs.Promises.Forecast.{MakesForecast}
 use Rattle.forecast.specs.declared.making.Forecasting.{Forecasting}
 use Rattle.sheet.specs.Meaning.Grounds.{verdictNumber}
@@ -30,6 +33,14 @@ pub record ReportsForecast (s lent : List ℕ) (r : ℕ) (old new : List ℕ) : 
   pub promised : MakesForecast s lent made
   pub number : r ≡ verdictNumber (made .verdict)
   pub words : new ≡ sets old 0 (cardWords (made .card))
+
+-- how a break is forced from the states of the sheet s; `before` and `after` are the result memory, the figures its length and states
+pub record ReportsForced (s before lent after : List ℕ) (r : ℕ) (old new : List ℕ) : Type 0 where
+  pub forced : Forced
+  pub promised : MakesForced s before lent forced after
+  pub number : r ≡ playNumber forced
+  -- then the old rest
+  pub figures : new ≡ sets old 0 (playLength forced ∷ playStates forced ∷ [])
 
 -- the listing of the table t; `before` and `after` are the text memory, the one figure is the length of the text
 pub record ReportsListing (t before after : List ℕ) (r : ℕ) (old new : List ℕ) : Type 0 where

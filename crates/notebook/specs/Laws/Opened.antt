@@ -3,7 +3,7 @@
 use Rattle.records.specs.Meaning.Limits.{linesOk, horizonOk}
 use Rattle.records.specs.Model.Cells.{isBroken}
 use Rattle.records.specs.Meaning.Bounded.{all, any, sum, count}
-use Rattle.records.specs.Model.Bounded.{top}
+use Rattle.records.specs.Model.Bounded.{least, top}
 use Rattle.records.specs.Meaning.Lists.{tab, cat}
 use Rattle.records.specs.Model.Lists.{put}
 use Rattle.records.specs.Meaning.Numbers.{u16At}
@@ -30,7 +30,7 @@ use Rattle.rounds.specs.Model.TableRounds.{cellAt, isIn, leadsIn, answered, sta
 use Rattle.solve.specs.Model.Steps.{cellsOf, droppedOf}
 use Rattle.supervisor.specs.Model.SupervisorOfSheet.{tableHead, tableOf, supervisorTable}
 use Rattle.supervisor_table.specs.Model.MaskRows.{keptFlag, tableRow}
-use Rattle.solve.specs.Model.Making.{sheetOf, manyNumber, lostNumber, roomNumber, tableNumber, makingNumber}
+use Rattle.solve.specs.Model.Making.{sheetOf, manyNumber, lostNumber, roomNumber, tableNumber, makingNumber, orderedNumber}
 use Rattle.values.specs.Meaning.Order.{literalHolds}
 use Rattle.values.specs.Model.Rank.{rankBy, rank}
 use Rattle.values.specs.Model.Values as values
@@ -49,6 +49,9 @@ use Rattle.game.specs.Model.Rounds.{keeps, keptAfter, may}
 use Rattle.game.specs.Model.Value.{value}
 use Rattle.game.specs.Model.Extreme.{bottom, valueBy}
 use Rattle.solve.specs.Model.Opening.{openingNumber}
+use Rattle.forced_rows.specs.Meaning.ForcedBytes.{forcedBytes, forcedLength}
+use Rattle.forced_rows.specs.Model.ForcedRows.{beforeRound, forcesAt, forcingInput, forcedRow}
+use Rattle.forced.specs.Model.ForcedOfSheet.{forcedOf, forcedSize, heldNumber}
 use Rattle.averages.specs.Meaning.Averages.{averageOf}
 use Rattle.card.specs.Model.Card.{averagesOf, cardEntry, cardEntryAt, lostEntries, lostCard, cardOf}
 use Rattle.card_words.specs.Meaning.CardWords.{entryWords, cardWords}
@@ -91,6 +94,11 @@ unfoldable pub forecasts : Unit {0}
 unfolding guards openingNumber rewardBy reward keeps keptAfter may value bottom valueBy bestsOf leastsOf averageOf float.round float.toBits averagesOf cardEntry cardEntryAt
     lostEntries lostCard cardOf forecastCard entryWords cardWords cardFront
 forecasts = tt
+
+-- how a break is forced
+unfoldable pub plays : Unit {0}
+unfolding supervisors orderedNumber least forcedBytes forcedLength beforeRound forcesAt forcingInput forcedRow forcedOf forcedSize heldNumber
+plays = tt
 
 -- load and step
 unfoldable pub boards : Unit {0}

@@ -15,8 +15,9 @@ use Rattle.board.specs.Meaning.Load.{loadOn}
 use Rattle.board.specs.Meaning.BoardStep.{stepOn, stepOutput}
 use Rattle.board.specs.declared.Board.{Board}
 use Rattle.supervisor.specs.Model.SupervisorOfSheet.{supervisorTable}
-use Rattle.solve.specs.Model.Making.{sheetOf, makingNumber}
+use Rattle.solve.specs.Model.Making.{sheetOf, makingNumber, orderedNumber}
 use Rattle.solve.specs.Model.Opening.{openingNumber}
+use Rattle.forced.specs.Model.ForcedOfSheet.{forcedOf, forcedSize, heldNumber}
 use Rattle.card_words.specs.Meaning.CardWords.{cardWords}
 use Rattle.forecast.specs.Model.Forecast.{bestsOf, leastsOf, forecastCard}
 use Rattle.plan.specs.Model.GuardOfSheet.{sheetGame, valuesOf, guardTableOf}
@@ -57,6 +58,16 @@ leastSums sheet = leastsOf (sheetOf sheet)
 -- the card's first words: the count, then for n states the bits of the best and of the least average
 unfoldable pub cardFront : ℕ → List ℕ → List ℕ
 cardFront n sheet = take (1 + 2 * n) (cardWords (forecastCard (sheetOf sheet)))
+
+-- ---- how a break is forced
+
+-- its number, with enough work memory
+abbrev pub forcedNumber : List ℕ → ℕ
+forcedNumber sheet = orderedNumber heldNumber forcedSize true sheet room
+
+-- its bytes: for each product state the steps, low byte first, and the input
+abbrev pub play : List ℕ → List ℕ
+play sheet = forcedOf (sheetOf sheet)
 
 -- ---- what the tables are made from
 

@@ -1,4 +1,4 @@
--- The sheets of document 01's notebook and two more, as bytes. All but A's are the encodings of decoded sheets.
+-- The sheets of document 01's notebook and three more, as bytes. All but A's are the encodings of decoded sheets.
 -- Assumes nothing.
 use mathlib.Core.List.{List, [], _∷_}
 use Prim.Native.Nat.{ℕ}
@@ -50,6 +50,17 @@ settles =
       rows = (0 ∷ 1 ∷ 2 ∷ 0 ∷ []) ∷ (3 ∷ 3 ∷ 0 ∷ 0 ∷ []) ∷ (0 ∷ 0 ∷ 3 ∷ 3 ∷ []) ∷ (3 ∷ 3 ∷ 3 ∷ 3 ∷ []) ∷ [];
     }
 
+-- input on breaks at once, and every second step does
+abbrev pub soonOver : Automaton
+soonOver =
+    record {
+      role = 0;
+      weight = 0;
+      start = 0;
+      accept = 1 ∷ 1 ∷ 0 ∷ [];
+      rows = (1 ∷ 2 ∷ 1 ∷ 2 ∷ []) ∷ (2 ∷ 2 ∷ 2 ∷ 2 ∷ []) ∷ (2 ∷ 2 ∷ 2 ∷ 2 ∷ []) ∷ [];
+    }
+
 -- this weight for each letter that has a 1 in the list
 abbrev pub wish : ℕ → List ℕ → Automaton
 wish weight letters =
@@ -98,6 +109,10 @@ sheet9 inputs horizon = encode (oneOutput inputs horizon [])
 -- three states, met by different letters
 abbrev pub letterSheet : List ℕ
 letterSheet = encode (oneOutput 1 0 (settles ∷ []))
+
+-- two states, each one step from its end
+abbrev pub soonSheet : List ℕ
+soonSheet = encode (oneOutput 1 0 (soonOver ∷ []))
 
 -- a hard monitor of one state where there is no input line; its weight is to be 0
 abbrev pub idle : ℕ → Automaton
