@@ -8,7 +8,8 @@
 //! they are wrong; [`Product`] numbers the product states and holds their steps; [`Kept`] tells
 //! which of them survive the rounds; [`Values`] weighs the steps over the horizon.
 //! [`make_supervisor`] and [`make_guard`] write the tables, and a [`Board`] runs a guard table.
-//! [`list`] prints one. [`forecast`] tells how well each product state can still do.
+//! [`list`] prints one. [`forecast`] tells how well each product state can still do, [`forced`] how
+//! inputs force a break where it is lost.
 //!
 //! ```
 //! let sheet: Vec<u8> = [
@@ -26,6 +27,7 @@
 
 mod board;
 mod fault;
+mod forced;
 mod forecast;
 mod listing;
 mod product;
@@ -38,6 +40,7 @@ mod values;
 
 pub use board::{loadable, Board, TableHead, STEPS_MOST};
 pub use fault::Fault;
+pub use forced::{forced, forced_bytes, make_forced, Force, FORCED_BYTES_MOST};
 pub use forecast::{forecast, Averages, Prospect};
 pub use listing::{list, list_table, SHEET_BYTES_MOST};
 pub use product::{Edge, Kept, Product, STATES_MOST};

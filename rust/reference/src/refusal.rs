@@ -19,7 +19,7 @@ pub enum Refusal {
     TooManyStates = 7,
     /// The start is not kept.
     Unrealizable = 8,
-    /// The result memory is shorter than the table.
+    /// The result memory is shorter than the table or the play.
     ShortResult = 9,
     /// The work memory is too short; never given here, where none is lent.
     ShortWork = 10,
@@ -33,11 +33,13 @@ pub enum Refusal {
     Occupied = 21,
     /// 1,000,000 steps are taken.
     Spent = 22,
+    /// The start is kept: no break can be forced.
+    Realizable = 23,
 }
 
 impl Refusal {
     /// Every refusal, by numbers ascending.
-    pub const ALL: [Refusal; 15] = [
+    pub const ALL: [Refusal; 16] = [
         Refusal::Truncated,
         Refusal::Misplaced,
         Refusal::BadHead,
@@ -53,6 +55,7 @@ impl Refusal {
         Refusal::Empty,
         Refusal::Occupied,
         Refusal::Spent,
+        Refusal::Realizable,
     ];
 
     /// Document 01's number.

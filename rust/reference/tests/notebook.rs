@@ -1,4 +1,5 @@
-//! Document 01's notebook: sheet A and its listing, P1 to P10, the two counters; and some forecasts.
+//! Document 01's notebook: sheet A and its listing, P1 to P10, the two counters; some forecasts and
+//! plays.
 
 use reference::*;
 
@@ -219,6 +220,63 @@ fn forecast_at_horizon_0_and_refused() {
     let unrealizable = [sheet_a(), on_letters(0, 0, 4, 0b1101)].concat();
     assert_eq!(forecast(&unrealizable), Err(Refusal::Unrealizable));
     assert_eq!(forecast(&[]), Err(Refusal::Misplaced));
+}
+
+/// The play of a sheet: steps and input by state, nothing where it is kept.
+fn play(sheet: &[u8]) -> Vec<Option<(u16, u8)>> {
+    let forces = forced(sheet).unwrap();
+    forces.iter().map(|force| force.map(|force| (force.steps, force.input))).collect()
+}
+
+/// Two trays running: the first may be met by opening, the second cannot be met.
+#[test]
+fn p3_is_forced_in_two_steps() {
+    let sheet = [sheet_a(), on_letters(0, 0, 4, 0b1101)].concat();
+    assert_eq!(play(&sheet), [Some((2, 1)), Some((2, 1)), Some((1, 1)), Some((1, 1))]);
+    assert_eq!(forced_bytes(&sheet).unwrap(), [2, 0, 1, 2, 0, 1, 1, 0, 1, 1, 0, 1]);
+}
+
+/// Input 0 leads to a state that breaks at the next step, input 1 breaks at once.
+#[test]
+fn a_lower_input_that_takes_longer_is_not_given() {
+    let hard = monitor(0, 0, 0, &[1, 1, 0], &[&[1, 2, 1, 2], &[2; 4], &[2; 4]]);
+    let sheet = [head(0, 1, 0, 0, &[0]), hard].concat();
+    assert_eq!(play(&sheet), [Some((1, 1)), Some((1, 0))]);
+}
+
+/// On three times running forces a break; the first off is safe for ever.
+#[test]
+fn a_kept_state_has_no_steps_and_no_input() {
+    let rows: [&[u8]; 4] = [&[3, 1, 3, 1], &[3, 2, 3, 2], &[3, 0, 3, 0], &[3; 4]];
+    let hard = monitor(0, 0, 0, &[0, 1, 1, 1], &rows);
+    let sheet = [head(0, 1, 0, 0, &[0]), hard].concat();
+    assert_eq!(play(&sheet), [Some((3, 1)), None, Some((2, 1)), Some((1, 1))]);
+    assert_eq!(forced_bytes(&sheet).unwrap(), [3, 0, 1, 0, 0, 0, 2, 0, 1, 1, 0, 1]);
+}
+
+#[test]
+fn what_is_realizable_is_not_forced() {
+    assert_eq!(forced(&sheet_a()), Err(Refusal::Realizable));
+    let doomed = monitor(0, 0, 0, &[1, 1, 0], &[&[0, 0, 1, 1], &[2; 4], &[2; 4]]);
+    let losing = [head(0, 1, 0, 0, &[0]), doomed].concat();
+    assert_eq!(forced_bytes(&losing), Err(Refusal::Realizable));
+    // 7 comes before it, and it before 9.
+    assert_eq!(make_forced(&losing, &mut []), Err(Refusal::Realizable));
+    let counters = [counter(32, 0, 2, 0), counter(9, 0, 2, 1)].concat();
+    let many = [head(0, 0, 0, 0, &[0, 1]), counters].concat();
+    assert_eq!(forced(&many), Err(Refusal::TooManyStates));
+    assert_eq!(forced(&[]), Err(Refusal::Misplaced));
+}
+
+#[test]
+fn result_memory_one_byte_short_of_a_play() {
+    let sheet = [sheet_a(), on_letters(0, 0, 4, 0b1101)].concat();
+    let mut result = [0xA5; 11];
+    assert_eq!(make_forced(&sheet, &mut result), Err(Refusal::ShortResult));
+    assert_eq!(result, [0xA5; 11]);
+    let mut result = [0xA5; 13];
+    let made = make_forced(&sheet, &mut result).unwrap();
+    assert_eq!((made.length, made.states, result[12]), (12, 4, 0xA5));
 }
 
 #[test]
