@@ -6,6 +6,7 @@
 
 #![forbid(unsafe_code)]
 
+mod forced;
 mod forecast;
 mod plan;
 mod product;
@@ -72,6 +73,11 @@ pub fn make_guard(sheet: &[u8], result: &mut [u8]) -> Result<Made, Refusal> {
         row[4..].copy_from_slice(entries.as_flattened());
     }
     Ok(made)
+}
+
+/// Writes the play that beats a sheet at the start of the result memory, as the reference does.
+pub fn make_forced(sheet: &[u8], result: &mut [u8]) -> Result<Made, Refusal> {
+    forced::make(&Product::explore(&Sheet::parse(sheet)?)?, result)
 }
 
 /// The prospect of each product state of a sheet, as the reference tells it.
