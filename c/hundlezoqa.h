@@ -37,23 +37,25 @@ extern "C" {
 #define HZ_LONG_HORIZON 6     /* sheet: the horizon, or inputs times the horizon, above 24 */
 #define HZ_TOO_MANY_STATES 7  /* sheet: more than 256 product states */
 #define HZ_UNREALIZABLE 8     /* sheet: what must hold cannot be kept from the start on */
-#define HZ_SHORT_RESULT 9     /* the result (or text) memory is shorter than the table (or text) */
+#define HZ_SHORT_RESULT 9     /* the result (or text) memory is shorter than the table or play (or text) */
 #define HZ_SHORT_WORK 10      /* a slice of work memory is shorter than its HZ_WORK_ length */
 #define HZ_BAD_TABLE 11       /* not a guard table that can be loaded, or not like the board's */
 #define HZ_BAD_INPUT 12       /* the input is not below 2^inputs */
 #define HZ_EMPTY 20           /* the board is empty */
 #define HZ_OCCUPIED 21        /* the board is loaded */
 #define HZ_SPENT 22           /* 1,000,000 steps were taken since the load or rewind */
+#define HZ_REALIZABLE 23      /* sheet: it can be kept from the start on, so that no break can be forced */
 
 /* Lengths that are always enough, in bytes. */
 
 #define HZ_SUPERVISOR_BYTES_MOST 5385 /* a supervisor table */
 #define HZ_GUARD_BYTES_MOST 9226      /* a guard table */
+#define HZ_FORCED_BYTES_MOST 768      /* a play */
 #define HZ_LISTING_BYTES_MOST 25897   /* a listing */
 
 /* Work memory: the least lengths, in elements. The first three are lent to every maker, and are all that the supervisor's
- * needs; the next two are the guard's and the forecast's, and then each has four of its own: 37,906, 43,666 and 46,738
- * bytes. It may hold anything before a call; after it, refused or not, all that was lent is zero. */
+ * and the play's need; the next two are the guard's and the forecast's, and then each has four of its own: 37,906, 43,666
+ * and 46,738 bytes. It may hold anything before a call; after it, refused or not, all that was lent is zero. */
 
 #define HZ_WORK_TUPLES 256   /* uint64_t */
 #define HZ_WORK_CELLS 16384  /* uint16_t */
@@ -140,6 +142,22 @@ uint32_t hz_forecast(const uint8_t *sheet, size_t sheet_len,
                      uint64_t *highs, size_t highs_len,
                      uint64_t *lows, size_t lows_len,
                      uint64_t *card, size_t card_len);
+
+/* Makes the play that beats an unrealizable sheet: by which inputs a break is forced, whatever the outputs are. It has three
+ * bytes for each product state, numbered as in the supervisor table: in two, little-endian, the least number of steps in
+ * which a hard monitor or limit can be forced to break, the broken step counting as one; then the lowest input that does
+ * so in that number. All three are 0 where the state is kept: its inputs can be answered for ever.
+ *
+ * figures_len MUST be at least HZ_FIGURES.
+ * HZ_OK: figures[0] is the play's length in bytes, figures[1] its number of states; the rest of `result` is as it was.
+ * Refused: as of hz_make_supervisor, but HZ_REALIZABLE in the place of HZ_UNREALIZABLE. The start alone decides it: other
+ * states may be lost. Further figures are left alone. Work memory is zero afterwards, over all the length that was lent. */
+uint32_t hz_forced(const uint8_t *sheet, size_t sheet_len,
+                   uint8_t *result, size_t result_len,
+                   uint64_t *tuples, size_t tuples_len,
+                   uint16_t *cells, size_t cells_len,
+                   uint16_t *dropped, size_t dropped_len,
+                   uint64_t *figures, size_t figures_len);
 
 /* The calls on a board: board_len MUST be exactly HZ_BOARD_BYTES. A refused call changes no byte of the board. A table's length is
  * exactly what the maker said: of a longer slice the call is refused. */

@@ -1,6 +1,7 @@
 /* A tray lock: one line in (a tray is there), one line out (open). It is never open twice running, and open with a tray
- * if that can be. Forecasts how well each of its states can do, makes the guard of this sheet, lists it, and runs it on a board; all
- * memory is static. c/README.md says how to build it. */
+ * if that can be. Forecasts how well each of its states can do, makes the guard of this sheet, lists it, and runs it on a
+ * board; then a sheet that asks for too much is refused, and the play says by which trays it is beaten. All memory is
+ * static. c/README.md says how to build it. */
 
 #include <stdint.h>
 #include <stdio.h>
@@ -19,7 +20,17 @@ static const uint8_t sheet[] = {
     1, 0, 0, 1, 1, 0, 0, 1
 };
 
+/* The same lock, but with a tray it must be open. */
+static const uint8_t too_much[] = {
+    0x06, 0x00, 0x01, 0x00, 0, 1, 1, 0, 0, 0,
+    0x13, 0x00, 0x02, 0x00, 0, 0, 3, 0, 1, 1, 0, /* hard: never open twice running */
+    0, 0, 1, 1, 0, 0, 2, 2, 2, 2, 2, 2,
+    0x0E, 0x00, 0x02, 0x00, 0, 0, 2, 0, 1, 0, /* hard: open with a tray */
+    0, 1, 0, 0, 1, 1, 1, 1
+};
+
 static uint8_t table[HZ_GUARD_BYTES_MOST];
+static uint8_t play[HZ_FORCED_BYTES_MOST];
 static uint8_t text[HZ_LISTING_BYTES_MOST];
 static uint8_t board[HZ_BOARD_BYTES]; /* all zero: empty */
 static uint64_t card[HZ_CARD_WORDS];
@@ -79,6 +90,28 @@ static uint32_t forecast(void)
     return answer;
 }
 
+/* The sheet that asks for too much is refused; makes its play, and prints a line for each product state. */
+static uint32_t forced(void)
+{
+    uint64_t figures[HZ_FIGURES], k;
+    uint32_t answer;
+
+    answer = hz_make_supervisor(too_much, LENGTH(too_much), table, LENGTH(table), tuples, LENGTH(tuples),
+                                cells, LENGTH(cells), dropped, LENGTH(dropped), figures, LENGTH(figures));
+    refused("hz_make_supervisor", answer); /* HZ_UNREALIZABLE, as c/tray.out has it */
+    answer = hz_forced(too_much, LENGTH(too_much), play, LENGTH(play), tuples, LENGTH(tuples), cells, LENGTH(cells),
+                       dropped, LENGTH(dropped), figures, LENGTH(figures));
+    for (k = 0; k < figures[1]; k++) { /* refused: none */
+        const uint8_t *entry = play + 3 * k;
+        unsigned least = entry[0] | (unsigned)entry[1] << 8;
+        if (least == 0)
+            printf("product state %lu: kept\n", (unsigned long)k);
+        else
+            printf("product state %lu: steps %u, tray %d\n", (unsigned long)k, least, entry[2]);
+    }
+    return answer;
+}
+
 int main(void)
 {
     static const uint8_t trays[] = {1, 1, 1, 0, 1};
@@ -123,5 +156,8 @@ int main(void)
     if (refused("hz_unload", hz_unload(board, LENGTH(board))))
         return 1;
     refused("hz_rewind", hz_rewind(board, LENGTH(board))); /* nothing is loaded any more */
+
+    if (refused("hz_forced", forced()))
+        return 1;
     return 0;
 }

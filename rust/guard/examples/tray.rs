@@ -1,10 +1,10 @@
 //! A tray lock: one line in (a tray is there), one line out (open). Never open twice running; open
-//! when a tray is there, if that can be.
+//! when a tray is there, if that can be. Where it must be, two trays running beat the sheet.
 //!
 //! Run with `cargo run --offline --example tray`, after `rt staticlib hundlezoqa_c`.
 
 use guard::sheet::Sheet;
-use guard::{Board, Forecast, Guard, Refusal, Supervisor, Work};
+use guard::{Board, Forced, Forecast, Guard, Refusal, Supervisor, Work};
 
 fn main() -> Result<(), Refusal> {
     // A letter is tray + 2 x open.
@@ -37,5 +37,14 @@ fn main() -> Result<(), Refusal> {
         println!("tray {tray}: open {}", board.step(&guard, tray)?);
     }
     println!("{} steps", board.steps());
-    board.unload()
+    board.unload()?;
+
+    let too_much = Sheet::controller(1, 1)
+        .hard(3, |state| state < 2, never_twice)
+        .hard(2, |state| state == 0, |_, letter| u8::from(letter == 1))
+        .to_bytes();
+    for (state, force) in Forced::make(&too_much, &mut work)?.iter().enumerate() {
+        println!("product state {state}: {force:?}");
+    }
+    Ok(())
 }

@@ -12,7 +12,7 @@ use crate::Work;
 /// place in two bytes each, steps and deviations in four bytes each, little-endian.
 pub const BOARD_BYTES: usize = 16;
 
-/// The figures that a maker reports: the table's length and its number of states, or zeros.
+/// The figures that a maker reports: its result's length and number of states, or zeros.
 pub const FIGURES: usize = 2;
 
 /// The figures that a listing reports: the text's length, or zero.
@@ -78,6 +78,14 @@ library! {
         highs: *mut u64, highs_len: usize,
         lows: *mut u64, lows_len: usize,
         card: *mut u64, card_len: usize,
+    ) -> u32;
+    fn hz_forced(
+        sheet: *const u8, sheet_len: usize,
+        result: *mut u8, result_len: usize,
+        tuples: *mut u64, tuples_len: usize,
+        cells: *mut u16, cells_len: usize,
+        dropped: *mut u16, dropped_len: usize,
+        figures: *mut u64, figures_len: usize,
     ) -> u32;
     fn hz_load(board: *mut u8, board_len: usize, table: *const u8, table_len: usize) -> u32;
     fn hz_step(
@@ -197,6 +205,35 @@ pub fn forecast<const WORDS: usize>(sheet: &[u8], work: &mut Work, card: &mut [u
             work.lows.len(),
             card.as_mut_ptr(),
             card.len(),
+        )
+    }
+}
+
+/// Makes the play that beats an unrealizable sheet; `work` lends tuples, cells and dropped.
+pub fn forced(
+    sheet: &[u8],
+    result: &mut [u8],
+    work: &mut Work,
+    figures: &mut [u64; FIGURES],
+) -> u32 {
+    // SAFETY: `sheet` is valid for reads of its length. `result`, `figures` and the vectors tuples,
+    // cells and dropped are each valid for reads and writes of their own length; each is borrowed
+    // by `&mut` or owned by what is, so that no two of the six overlap. The one length asked for is
+    // that of the figures, at least 2, and `FIGURES` is 2; shorter work or result memory is refused.
+    unsafe {
+        hz_forced(
+            sheet.as_ptr(),
+            sheet.len(),
+            result.as_mut_ptr(),
+            result.len(),
+            work.tuples.as_mut_ptr(),
+            work.tuples.len(),
+            work.cells.as_mut_ptr(),
+            work.cells.len(),
+            work.dropped.as_mut_ptr(),
+            work.dropped.len(),
+            figures.as_mut_ptr(),
+            figures.len(),
         )
     }
 }

@@ -5,7 +5,8 @@
 //! [`Supervisor::make`] works out every output that can still be survived, and [`Guard::make`]
 //! the table that the board runs by: for each state and input the output and the next state.
 //! A [`Board`] loads such a table and answers one input after another. [`Forecast::make`] tells how
-//! well each state can still do.
+//! well each state can still do, and where no guard can keep a sheet, [`Forced::make`] by which inputs
+//! it is beaten.
 //!
 //! The work is done by functions that were proved to meet their contracts, linked as a static
 //! library; all that this crate adds is types. What is unsafe is in the module [`calls`], where
@@ -21,16 +22,17 @@
 #![cfg_attr(guard_library, doc = "```")]
 #![cfg_attr(not(guard_library), doc = "```no_run")]
 //! use guard::sheet::Sheet;
-//! use guard::{Averages, Board, Forecast, Guard, Prospect, Refusal, Supervisor, Work};
+//! use guard::{Averages, Board, Force, Forced, Forecast, Guard, Prospect, Refusal, Supervisor, Work};
 //!
 //! // A letter is input + 2 x output; state 2 is the break.
+//! let never_twice = |state, letter: u8| match (state, letter >> 1) {
+//!     (2, _) => 2,
+//!     (_, 1) => state + 1,
+//!     _ => 0,
+//! };
 //! let sheet = Sheet::controller(1, 1)
 //!     .horizon(1)
-//!     .hard(3, |state| state < 2, |state, letter| match (state, letter >> 1) {
-//!         (2, _) => 2,
-//!         (_, 1) => state + 1,
-//!         _ => 0,
-//!     })
+//!     .hard(3, |state| state < 2, never_twice)
 //!     .soft(3, 2, |state| state == 1, |_, letter| u8::from(letter == 0 || letter == 3))
 //!     .to_bytes();
 //!
@@ -54,6 +56,16 @@
 //! assert_eq!(board.step(&guard, 1)?, 0);
 //! assert_eq!(board.step(&guard, 2), Err(Refusal::BadInput)); // one line has no input 2
 //! assert_eq!(board.steps(), 2);
+//!
+//! // With input on, output on: two inputs on running beat a sheet that asks for that too.
+//! let on_at_on = |_, letter| u8::from(letter != 1);
+//! let too_much = Sheet::controller(1, 1)
+//!     .hard(3, |state| state < 2, never_twice)
+//!     .hard(2, |state| state == 1, on_at_on)
+//!     .to_bytes();
+//! assert_eq!(Guard::make(&too_much, &mut work), Err(Refusal::Unrealizable));
+//! let forced = Forced::make(&too_much, &mut work)?;
+//! assert_eq!(forced.get(0), Some(Force { steps: 2, input: 1 }));
 //! # Ok::<(), Refusal>(())
 //! ```
 
@@ -62,6 +74,7 @@
 mod board;
 #[allow(unsafe_code)]
 pub mod calls;
+mod forced;
 mod forecast;
 mod refusal;
 pub mod sheet;
@@ -69,6 +82,7 @@ mod tables;
 mod work;
 
 pub use board::{Board, Fields};
+pub use forced::{Force, Forced};
 pub use forecast::{Averages, Forecast, Prospect};
 pub use refusal::Refusal;
 pub use tables::{Guard, Made, Supervisor};

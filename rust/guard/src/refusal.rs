@@ -21,7 +21,8 @@ pub enum Refusal {
     TooManyStates,
     /// 8: the start is not kept.
     Unrealizable,
-    /// 9: the result memory is shorter than the table, or the text memory than the listing.
+    /// 9: the result memory is shorter than the table or the play, or the text memory than the
+    /// listing.
     ShortResult,
     /// 10: a slice of work memory is shorter than its constant.
     ShortWork,
@@ -35,6 +36,8 @@ pub enum Refusal {
     Occupied,
     /// 22: 1,000,000 steps are taken.
     Spent,
+    /// 23: the start is kept, so that no break can be forced.
+    Realizable,
     /// Any other number. The library that this crate was written for never answers so; another
     /// one was linked, a later one say, and nothing is known of what the call did.
     Unknown(u32),
@@ -42,7 +45,7 @@ pub enum Refusal {
 
 impl Refusal {
     /// The refusals that have a name, by their numbers ascending.
-    pub const NAMED: [Refusal; 15] = [
+    pub const NAMED: [Refusal; 16] = [
         Refusal::Truncated,
         Refusal::Misplaced,
         Refusal::BadHead,
@@ -58,6 +61,7 @@ impl Refusal {
         Refusal::Empty,
         Refusal::Occupied,
         Refusal::Spent,
+        Refusal::Realizable,
     ];
 
     /// Document 01's number.
@@ -78,6 +82,7 @@ impl Refusal {
             Refusal::Empty => 20,
             Refusal::Occupied => 21,
             Refusal::Spent => 22,
+            Refusal::Realizable => 23,
             Refusal::Unknown(number) => number,
         }
     }
@@ -114,6 +119,7 @@ impl fmt::Display for Refusal {
             Refusal::Empty => "the board is empty",
             Refusal::Occupied => "the board is loaded",
             Refusal::Spent => "1,000,000 steps are taken",
+            Refusal::Realizable => "realizable: the start is kept",
             Refusal::Unknown(_) => "a number without a name: another library was linked",
         };
         write!(f, "refused {}: {ground}", self.number())
@@ -139,7 +145,7 @@ mod tests {
     fn a_number_without_a_name_is_an_error_of_its_own() {
         assert_eq!(Refusal::check(0), Ok(()));
         assert_eq!(Refusal::from_number(0), None);
-        for number in [13, 19, 23, 0xFFFF, u32::MAX] {
+        for number in [13, 19, 24, 0xFFFF, u32::MAX] {
             assert_eq!(Refusal::from_number(number), None);
             assert_eq!(Refusal::check(number), Err(Refusal::Unknown(number)));
             assert_eq!(Refusal::Unknown(number).number(), number);

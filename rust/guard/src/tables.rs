@@ -8,13 +8,14 @@ const HEADER: usize = 4;
 /// What a maker wrote into the result memory it was lent.
 #[derive(Clone, Copy, Debug, PartialEq, Eq)]
 pub struct Made {
-    /// The table's bytes, at the start of the memory; the rest is as it was.
+    /// Its bytes, at the start of the memory; the rest is as it was.
     pub length: usize,
-    /// The table's states.
+    /// Its states.
     pub states: usize,
 }
 
-fn made(number: u32, figures: [u64; FIGURES]) -> Result<Made, Refusal> {
+/// A maker's answer: what it made, or the refusal.
+pub(crate) fn made(number: u32, figures: [u64; FIGURES]) -> Result<Made, Refusal> {
     Refusal::check(number)?;
     Ok(Made { length: figures[0] as usize, states: figures[1] as usize })
 }
