@@ -2,7 +2,7 @@
 
 pub use guard::sheet::record;
 use guard::sheet::{Literal, Mode, Monitor, Role, Sheet};
-use reference::{Board, STATES_MOST, STEPS_MOST};
+use reference::{Board, Refusal, STATES_MOST, STEPS_MOST};
 
 use crate::Random;
 
@@ -224,6 +224,32 @@ pub fn sheet(random: &mut Random) -> Vec<u8> {
         bytes.extend(record);
     }
     bytes
+}
+
+/// A sheet that is refused 8.
+pub fn lost_sheet(random: &mut Random) -> Vec<u8> {
+    loop {
+        let bytes = sheet(random);
+        if reference::supervisor_table(&bytes) == Err(Refusal::Unrealizable) {
+            return bytes;
+        }
+    }
+}
+
+/// The longest play that a sheet can have, 256 product states and as many steps: each answer spends
+/// something. Output line 0 on spends one of the first monitor's 17 states and brings the second back
+/// to its state 1, off spends one of the second's 15; at its start the second has one more, since that
+/// does not accept. With lines in, input line 0 off brings the second back for nothing.
+pub fn longest_play(lines_in: u8, outputs: u8) -> Vec<u8> {
+    let spends = move |letter: u8| lines_in == 0 || letter & 1 == 1;
+    let on = move |letter: u8| letter >> lines_in & 1 == 1;
+    let first = |state: u8, letter| (state + u8::from(spends(letter) && on(letter))).min(17);
+    let second = |state: u8, letter| match spends(letter) && !on(letter) {
+        true => (state + 1) % 16,
+        false => 1,
+    };
+    let sheet = Sheet::controller(lines_in, outputs).hard(18, |state| state < 17, first);
+    sheet.hard(16, |state| state > 0, second).to_bytes()
 }
 
 /// Where the records of a sheet begin, as far as they can be followed.

@@ -1,10 +1,11 @@
 //! What the proved library and the reference answer, side by side.
 //!
 //! [`vectors`] runs a file of expected answers against a [`Subject`]; [`generate`] makes sheets,
-//! tables and boards, sound and damaged, for the property tests in `tests/`, and [`work`] the memory
-//! that the makers are lent there.
+//! tables and boards, sound and damaged, for the property tests in `tests/`, [`work`] the memory that
+//! the makers are lent there, and [`making`] compares one call of a maker.
 
 pub mod generate;
+pub mod making;
 pub mod random;
 pub mod subject;
 pub mod vectors;

@@ -18,6 +18,8 @@ pub trait Subject {
     fn make_guard(&mut self, sheet: &[u8], result: &mut [u8]) -> (u32, u64);
     /// Makes a forecast card: number.
     fn forecast(&mut self, sheet: &[u8], card: &mut Card) -> u32;
+    /// Makes the play that beats a sheet: number and length.
+    fn forced(&mut self, sheet: &[u8], result: &mut [u8]) -> (u32, u64);
     /// Loads: number.
     fn load(&mut self, board: &mut Board, table: &[u8]) -> u32;
     /// Steps: number and output.
@@ -66,6 +68,11 @@ impl Subject for Reference {
         let forecast = reference::forecast(sheet);
         *card = card_of(&forecast);
         number(&forecast)
+    }
+
+    fn forced(&mut self, sheet: &[u8], result: &mut [u8]) -> (u32, u64) {
+        let made = reference::make_forced(sheet, result);
+        (number(&made), made.map_or(0, |m| m.length as u64))
     }
 
     fn load(&mut self, board: &mut Board, table: &[u8]) -> u32 {
@@ -156,6 +163,12 @@ impl Subject for Library {
 
     fn forecast(&mut self, sheet: &[u8], card: &mut Card) -> u32 {
         calls::forecast(sheet, &mut self.work, card)
+    }
+
+    fn forced(&mut self, sheet: &[u8], result: &mut [u8]) -> (u32, u64) {
+        let mut figures = [u64::MAX; calls::FIGURES];
+        let number = calls::forced(sheet, result, &mut self.work, &mut figures);
+        (number, figures[0])
     }
 
     fn load(&mut self, board: &mut Board, table: &[u8]) -> u32 {

@@ -10,7 +10,7 @@ use reference::Board;
 use crate::Subject;
 
 /// The present level: the base is 0, level k knows the change requests N1 to Nk.
-pub const LEVEL: u32 = 1;
+pub const LEVEL: u32 = 2;
 
 /// Every kind of line that the present level has, by its letter. The next level raises [`LEVEL`],
 /// adds its kinds here, and to [`Subject`] the calls that they compare.
@@ -18,6 +18,7 @@ const KINDS: &[(&str, Comparison)] = &[
     ("S", tables),
     ("R", room),
     ("C", forecast),
+    ("F", forced),
     (LISTING, listing),
     ("D", load),
     ("B", step),
@@ -224,7 +225,7 @@ fn same<T: PartialEq + fmt::Debug>(what: &str, expected: &T, found: &T) -> Compa
     Err(format!("{what}: expected {expected:?}, found {found:?}"))
 }
 
-/// What a maker must answer: refusal and length, and where it is known the table.
+/// What a maker must answer: refusal and length, and where it is known the table or play.
 struct Making<'a> {
     no: u32,
     length: u64,
@@ -244,6 +245,9 @@ impl<'a> Making<'a> {
         room: usize,
         maker: &mut dyn FnMut(&mut [u8]) -> (u32, u64),
     ) -> Compared {
+        if room > ROOM_MOST {
+            return Err(format!("more result memory than is tried: {room}"));
+        }
         let mut result = vec![FILL; room];
         same(what, &(self.no, self.length), &maker(&mut result))?;
         let written = if self.no == 0 { self.length as usize } else { 0 };
@@ -274,9 +278,6 @@ fn tables(line: &mut Fields, subject: &mut dyn Subject) -> Compared {
 fn room(line: &mut Fields, subject: &mut dyn Subject) -> Compared {
     let (sheet, room) = (line.bytes()?, line.number()?);
     let making = Making { no: line.number()?, length: line.number()?, table: None };
-    if room > ROOM_MOST {
-        return Err(format!("more result memory than is tried: {room}"));
-    }
     making.compare("guard", room, &mut |result| subject.make_guard(&sheet, result))
 }
 
@@ -300,6 +301,13 @@ fn forecast(line: &mut Fields, subject: &mut dyn Subject) -> Compared {
         same(&format!("state {state}"), &expected, &entry(words).as_str())?;
     }
     Ok(())
+}
+
+fn forced(line: &mut Fields, subject: &mut dyn Subject) -> Compared {
+    let (sheet, room) = (line.bytes()?, line.number()?);
+    let (no, play) = (line.number()?, line.bytes()?);
+    let mut maker = |result: &mut [u8]| subject.forced(&sheet, result);
+    Making::of(no, &play).compare("forced", room, &mut maker)
 }
 
 fn listing(line: &mut Fields, subject: &mut dyn Subject) -> Compared {
@@ -366,6 +374,9 @@ mod tests {
     /// Best and least 3 and 0 in two states, 1.5 in the others.
     const CARD_OF_A: &str = " 4008000000000000:0000000000000000 4008000000000000:0000000000000000 \
                              3ff8000000000000:3ff8000000000000 3ff8000000000000:3ff8000000000000";
+    /// A monitor more, with which A is refused 8 and beaten by two inputs on running.
+    const ON_AT_ON: &str = "0e0002000000020000010100010101000101";
+    const PLAY: &str = "020001020001010001010001";
     const EMPTY: &str = "0,0,0,0,0,0,0,0";
 
     fn of(line: &str) -> Outcome {
@@ -396,6 +407,11 @@ mod tests {
             format!("R {LEVEL} {A} 33 9 0"),
             format!("C {LEVEL} - 2 0"),
             format!("C {LEVEL} {A} 0 4{CARD_OF_A}"),
+            format!("F {LEVEL} - 0 2 -"),
+            format!("F {LEVEL} {A} 0 23 -"),
+            format!("F {LEVEL} {A}{ON_AT_ON} 12 0 {PLAY}"),
+            format!("F {LEVEL} {A}{ON_AT_ON} 30000 0 {PLAY}"),
+            format!("F {LEVEL} {A}{ON_AT_ON} 11 9 -"),
             format!("O {LEVEL} {EMPTY} unload 7 20 {EMPTY}"),
             format!("B {LEVEL} {EMPTY} - 255 20 {EMPTY} 0"),
         ];
@@ -420,6 +436,13 @@ mod tests {
             format!("C {LEVEL} {A} 0 5{CARD_OF_A} lost"),
             format!("C {LEVEL} {A} 0 4{}", CARD_OF_A.replacen("0000000000000000", "lost", 1)),
             format!("C {LEVEL} {A} 0 4{}", CARD_OF_A.replacen(":0", ":8", 1)),
+            format!("F {LEVEL} - 0 0 -"),
+            format!("F {LEVEL} {A} 0 8 -"),
+            format!("F {LEVEL} {A}{ON_AT_ON} 12 8 -"),
+            format!("F {LEVEL} {A}{ON_AT_ON} 12 0 {}", &PLAY[6..]),
+            format!("F {LEVEL} {A}{ON_AT_ON} 12 0 {}", PLAY.replacen("01", "00", 1)),
+            format!("F {LEVEL} {A}{ON_AT_ON} 12 0 {PLAY}000000"),
+            format!("F {LEVEL} {A}{ON_AT_ON} 11 0 {PLAY}"),
             format!("O {LEVEL} {EMPTY} unload 7 0 {EMPTY}"),
             format!("B {LEVEL} {EMPTY} - 255 20 1,0,0,0,0,0,0,0 0"),
             format!("Q {LEVEL} - - - {EMPTY}"),
@@ -453,6 +476,9 @@ mod tests {
             format!("B {LEVEL} {EMPTY} - 256 20 {EMPTY} 0"),
             format!("Q {LEVEL} - 0 0 {EMPTY}"),
             format!("R {LEVEL} {A} 18446744073709551615 0 46"),
+            format!("F {LEVEL} {A} 18446744073709551615 23 -"),
+            format!("F {LEVEL} {A} 0 23"),
+            format!("F {LEVEL} {A} 0 23 - -"),
             format!("C {LEVEL} - 2"),
             format!("C {LEVEL} - 2 0 lost"),
             format!("C {LEVEL} {A} 0 257{}", " lost".repeat(257)),

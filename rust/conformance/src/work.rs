@@ -33,6 +33,12 @@ macro_rules! slices {
                 }
             }
 
+            fn is_short(self, work: &Work) -> bool {
+                match self {
+                    $(Slice::$slice => work.$field.len() < self.least()),*
+                }
+            }
+
             fn is_clear(self, work: &Work) -> bool {
                 match self {
                     $(Slice::$slice => work.$field.iter().all(|&x| x == 0)),*
@@ -93,6 +99,9 @@ pub const FORECAST: &[Slice] = &[
     Slice::Lows,
 ];
 
+/// What the making of a play is lent.
+pub const FORCED: &[Slice] = &[Slice::Tuples, Slice::Cells, Slice::Dropped];
+
 /// Work memory full of anything, each slice at times longer than its constant, by less than so much.
 pub fn any(random: &mut Random, beyond: usize) -> Work {
     let mut work = Work::new();
@@ -107,6 +116,11 @@ pub fn any(random: &mut Random, beyond: usize) -> Work {
 pub fn shorten(work: &mut Work, slice: Slice, random: &mut Random) {
     let short = if random.once_in(2) { 1 } else { 1 + random.below(slice.least()) };
     slice.fill(work, slice.least() - short, random);
+}
+
+/// Whether a slice that is lent is shorter than its constant.
+pub fn is_short(lent: &[Slice], work: &Work) -> bool {
+    lent.iter().any(|slice| slice.is_short(work))
 }
 
 /// Panics unless what was lent to a call is zero after it, and the rest as it was before.

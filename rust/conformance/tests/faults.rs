@@ -54,9 +54,10 @@ fn refusals_are_the_librarys() {
             library.make_supervisor(&sheet, &mut result).0,
             library.make_guard(&sheet, &mut result).0,
             library.forecast(&sheet, &mut [0; CARD_WORDS]),
+            library.forced(&sheet, &mut result).0,
         ];
         let sheet_fault = |made| if (1..=6).contains(&made) { made } else { 0 };
-        assert_eq!(made.map(sheet_fault), [number; 3], "case {case} of seed {}", seed());
+        assert_eq!(made.map(sheet_fault), [number; 4], "case {case} of seed {}", seed());
         *seen.entry(number).or_default() += 1;
     }
     println!("faults seen, by number: {seen:?}");

@@ -3,7 +3,7 @@
 
 use std::collections::BTreeMap;
 
-use guard::{calls, Guard, Refusal, Supervisor, Work};
+use guard::{calls, Forced, Guard, Refusal, Supervisor, Work};
 
 fn source(path: &str) -> String {
     let path = format!("{}/../../{path}", env!("CARGO_MANIFEST_DIR"));
@@ -23,12 +23,13 @@ fn constant(name: &str) -> String {
 }
 
 /// Where the types of Rattle's that have sizes are.
-const TYPES: [(&str, &str); 7] = [
+const TYPES: [(&str, &str); 8] = [
     ("Limits", "crates/records/src/limits.rt"),
     ("Index", "crates/states/src/index.rt"),
     ("Supervisor", "crates/supervisor/src/make.rt"),
     ("Guard", "crates/guard/src/make.rt"),
     ("Forecast", "crates/forecast/src/make.rt"),
+    ("Forcing", "crates/forced/src/make.rt"),
     ("CardWords", "crates/card_words/src/lib.rt"),
     ("Report", "crates/report/src/lib.rt"),
 ];
@@ -88,7 +89,7 @@ fn what_is_longest_is_rattle_s() {
 #[test]
 fn every_work_length_is_rattle_s() {
     let mut expected = BTreeMap::new();
-    for maker in ["Supervisor", "Guard", "Forecast"] {
+    for maker in ["Supervisor", "Guard", "Forecast", "Forcing"] {
         let text = source_of(maker);
         for name in text.split("pub const ").skip(1).filter_map(|rest| rest.split(':').next()) {
             let length = rattle(&format!("{maker}::{name}"));
@@ -107,6 +108,7 @@ fn every_number_and_length_is_the_wrapper_s() {
         ("HZ_OK", 0),
         ("HZ_SUPERVISOR_BYTES_MOST", Supervisor::BYTES_MOST),
         ("HZ_GUARD_BYTES_MOST", Guard::BYTES_MOST),
+        ("HZ_FORCED_BYTES_MOST", Forced::BYTES_MOST),
         ("HZ_LISTING_BYTES_MOST", Guard::LISTING_BYTES_MOST),
         ("HZ_WORK_TUPLES", Work::TUPLES),
         ("HZ_WORK_CELLS", Work::CELLS),

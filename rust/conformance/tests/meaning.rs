@@ -1,14 +1,14 @@
 //! The reference against the paper's own words, on small sheets: which outputs are allowed by
-//! ways of answering n further inputs, the guard's outputs by all plans written out, and the
-//! forecast by all ways of answering H inputs, each with what it earns added over all words. Neither
-//! rounds nor values play a part.
+//! ways of answering n further inputs, the guard's outputs by all plans written out, the forecast by
+//! all ways of answering H inputs, each with what it earns added over all words, and the play by all
+//! ways of giving n inputs, each against all answers. Neither rounds nor values play a part.
 
 use std::collections::HashMap;
 
 use conformance::generate::{self, Shape};
 use conformance::{cases, seed, Random};
 use guard::sheet::{Mode, Role};
-use reference::{Averages, Board, Kept, Product, Prospect, Sheet, Tuple};
+use reference::{Averages, Board, Force, Kept, Product, Prospect, Refusal, Sheet, Tuple};
 
 /// The most product states of a sheet that is tried: after as many inputs nothing changes.
 const STATES: usize = 40;
@@ -104,8 +104,15 @@ impl Game<'_> {
     }
 }
 
-/// The most ways of answering that are written out.
+/// The most ways of answering, or of giving inputs, that are written out.
 const WAYS: usize = 5_000;
+
+/// All lists of so many numbers below the bound; nothing if they are too many.
+fn lists(bound: usize, length: u32) -> Option<impl Iterator<Item = Vec<u8>>> {
+    let count = bound.checked_pow(length).filter(|&count| count <= WAYS)?;
+    let number = move |list: usize, place| (list / bound.pow(place) % bound) as u8;
+    Some((0..count).map(move |list| (0..length).map(|place| number(list, place)).collect()))
+}
 
 /// The forecast's part.
 impl Game<'_> {
@@ -119,10 +126,7 @@ impl Game<'_> {
     /// The ways of answering H inputs, the outputs for shorter strings first; nothing if they are too
     /// many.
     fn ways(&self) -> Option<impl Iterator<Item = Vec<u8>>> {
-        let (outputs, strings) = (self.outputs().len(), self.strings());
-        let count = outputs.checked_pow(strings).filter(|&count| count <= WAYS)?;
-        let output = move |way: usize, string| (way / outputs.pow(string) % outputs) as u8;
-        Some((0..count).map(move |way| (0..strings).map(|string| output(way, string)).collect()))
+        lists(self.outputs().len(), self.strings())
     }
 
     /// What a way of answering earns over all words of H inputs, or nothing if one of its outputs is
@@ -160,9 +164,54 @@ impl Game<'_> {
     }
 }
 
-/// A small sheet: at most one input line, so that the plans can be written out.
-fn small_sheet(random: &mut Random) -> Vec<u8> {
-    let small = |shape: &Shape| shape.inputs() <= 1 && shape.outputs <= 2;
+/// The play's part.
+impl Game<'_> {
+    /// The ways of giving n inputs, an input for each string of fewer answers, the shorter ones first;
+    /// nothing if they are too many.
+    fn ways_of_giving(&self, n: u32) -> Option<impl Iterator<Item = Vec<u8>>> {
+        let strings = (0..n).map(|answers| self.outputs().len().pow(answers) as u32).sum();
+        lists(self.inputs().len(), strings)
+    }
+
+    /// Whether a way of giving n inputs breaks a step, whichever n answers are given.
+    fn forces(&self, at: Tuple, way: &[u8], n: u32) -> bool {
+        let outputs = self.outputs().len();
+        (0..outputs.pow(n)).all(|answers| {
+            // The strings of one length begin at `first`, and this one is `number` further on.
+            let (mut here, mut first, mut number) = (at, 0, 0);
+            (0..n).any(|step| {
+                let output = answers / outputs.pow(step) % outputs;
+                let Some((next, _)) = self.sheet.step(&here, way[first + number], output as u8)
+                else {
+                    return true;
+                };
+                here = next;
+                first += outputs.pow(step);
+                number = number * outputs + output;
+                false
+            })
+        })
+    }
+
+    /// The lowest input that a way begins with which forces a break in n steps; nothing if none does.
+    fn first_input(&self, at: Tuple, ways: &[Vec<u8>], n: u32) -> Option<u8> {
+        ways.iter().filter(|way| self.forces(at, way, n)).map(|way| way[0]).min()
+    }
+
+    /// Whether a state's entry of the play is what the ways of giving n inputs come to.
+    fn is_forced(&self, at: Tuple, force: Option<Force>, ways: &[Vec<u8>], n: u32) -> bool {
+        let found = self.first_input(at, ways, n);
+        match force.map(|force| (u32::from(force.steps), force.input)) {
+            Some((steps, input)) if steps == n => found == Some(input),
+            Some((steps, _)) if steps < n => found.is_some(),
+            _ => found.is_none(),
+        }
+    }
+}
+
+/// A small sheet: at most so many input lines, so that plans and ways can be written out.
+fn small_sheet(random: &mut Random, inputs: u8) -> Vec<u8> {
+    let small = |shape: &Shape| shape.inputs() <= inputs && shape.outputs <= 2;
     let shapes: Vec<Shape> = Shape::all().into_iter().filter(small).collect();
     let shape = random.pick(&shapes);
     let mut bytes = generate::head(random, shape);
@@ -191,7 +240,7 @@ fn the_reference_follows_the_paper() {
     let (mut accepted, mut unrealizable, mut looking) = (0, 0, 0);
     for case in 0..cases(1_000) {
         let mut random = Random::new(seed(), case);
-        let bytes = small_sheet(&mut random);
+        let bytes = small_sheet(&mut random, 1);
         let say = || format!("case {case} of seed {}: {bytes:02x?}", seed());
         let sheet = Sheet::parse(&bytes).expect("in bounds");
         let Ok(product) = Product::explore(&sheet) else { continue };
@@ -241,7 +290,7 @@ fn the_reference_follows_the_paper() {
 fn the_forecast_is_over_all_ways_of_answering() {
     let (mut made, mut looking, mut losing) = (0, 0, 0);
     for case in 0..cases(1_000) {
-        let bytes = small_sheet(&mut Random::new(!seed(), case));
+        let bytes = small_sheet(&mut Random::new(!seed(), case), 1);
         let say = || format!("case {case} of seed {}: {bytes:02x?}", seed());
         let sheet = Sheet::parse(&bytes).expect("in bounds");
         let Ok(forecast) = reference::forecast(&bytes) else { continue };
@@ -260,4 +309,50 @@ fn the_forecast_is_over_all_ways_of_answering() {
     }
     println!("{made} made, {looking} of them over two steps or more, {losing} with lost states");
     assert!(made > 300 && looking > 100 && losing > 40, "too few sheets of a sort");
+}
+
+/// The most steps over which ways of giving inputs are written out: with one input there is one way.
+const STEPS: u32 = 6;
+
+/// A small sheet that is lost, but for one in so many.
+fn mostly_lost_sheet(random: &mut Random, but_for: usize) -> Vec<u8> {
+    let (lost, inputs) = (!random.once_in(but_for), random.pick(&[1, 1, 2]));
+    loop {
+        let bytes = small_sheet(random, inputs);
+        let refused = reference::supervisor_table(&bytes) == Err(Refusal::Unrealizable);
+        if refused == lost {
+            return bytes;
+        }
+    }
+}
+
+#[test]
+fn the_play_is_over_all_ways_of_giving_inputs() {
+    let (mut made, mut realizable) = (0, 0);
+    // Entries that were held against all ways of as many steps.
+    let mut held = [0; STEPS as usize + 1];
+    for case in 0..cases(4_000) {
+        let bytes = mostly_lost_sheet(&mut Random::new(seed(), !case), 8);
+        let say = || format!("case {case} of seed {}: {bytes:02x?}", seed());
+        let sheet = Sheet::parse(&bytes).expect("in bounds");
+        let product = Product::explore(&sheet).expect("few states");
+        let game = Game { sheet: &sheet, known: HashMap::new() };
+        let forces = reference::forced(&bytes);
+        realizable += u64::from(forces == Err(Refusal::Realizable));
+        made += u64::from(forces.is_ok());
+        // Of a realizable sheet the start alone is told of.
+        let forces = forces.unwrap_or(vec![None]);
+        for n in 1..=STEPS {
+            let Some(ways) = game.ways_of_giving(n) else { break };
+            let ways: Vec<Vec<u8>> = ways.collect();
+            for (state, &force) in forces.iter().enumerate().take(STATES) {
+                let holds = game.is_forced(*product.tuple(state), force, &ways, n);
+                assert!(holds, "state {state}, {force:?}, {n} steps, {}", say());
+                held[n as usize] += u64::from(force.is_some_and(|f| u32::from(f.steps) == n));
+            }
+        }
+    }
+    println!("{made} made, {realizable} realizable, entries by their steps {held:?}");
+    let few = held[1..=3].iter().any(|&n| n < 100) || made < 500 || realizable < 100;
+    assert!(cases(4_000) < 4_000 || !few, "too few of a sort");
 }

@@ -23,8 +23,9 @@ fn wrapper_and_reference_have_the_same_names_and_numbers() {
     assert_eq!(of_wrapper(), of_reference());
 }
 
-/// The types of Rattle's answers: a maker's refusals, and what the calls on a board answer.
-const ANSWERS: [&str; 4] = ["Refusal", "Load", "Step", "Change"];
+/// The types of Rattle's answers: a maker's refusals, the play's own ground, and what the calls on a board
+/// answer.
+const ANSWERS: [&str; 5] = ["Refusal", "Ground", "Load", "Step", "Change"];
 
 /// Adds the names that a source gives numbers to, in the form `Type::Name => number,`; 0 is no
 /// refusal.

@@ -10,9 +10,10 @@ use reference::{Made, Refusal, GUARD_BYTES_MOST};
 type Maker = fn(&[u8], &mut [u8]) -> Result<Made, Refusal>;
 
 /// The makers in pairs, the reference's first.
-const MAKERS: [(&str, Maker, Maker); 2] = [
+const MAKERS: [(&str, Maker, Maker); 3] = [
     ("supervisor", reference::make_supervisor, tuned::make_supervisor),
     ("guard", reference::make_guard, tuned::make_guard),
+    ("forced", reference::make_forced, tuned::make_forced),
 ];
 
 /// Both makers of a pair with result memory of some length, full of anything; the answer's number.
@@ -45,7 +46,8 @@ fn tuned_makers_agree() {
         }
     }
     println!("answers seen, by number: {seen:?}");
-    assert!((0..=9).all(|number| seen.get(&number).is_some_and(|&n| n >= 20)), "{seen:?}");
+    let mut numbers = (0..=9).chain([Refusal::Realizable.number()]);
+    assert!(numbers.all(|number| seen.get(&number).is_some_and(|&n| n >= 20)), "{seen:?}");
 }
 
 /// Sheets that none of 1 to 6 applies to, so that all of them reach the product.
@@ -59,20 +61,19 @@ fn tuned_makers_agree_on_sound_sheets() {
     }
 }
 
-/// Every length of result memory up to a table's and beyond it.
+/// Every length of result memory up to an answer's and beyond it.
 #[test]
 fn tuned_makers_refuse_short_memory_alike() {
     let mut random = Random::new(seed(), 0);
-    let mut tried = 0;
-    while tried < 20 {
-        let sheet = generate::sheet(&mut random);
-        let Ok(table) = reference::guard_table(&sheet) else { continue };
-        if table.len() <= 300 {
-            tried += 1;
-            for room in 0..table.len() + 10 {
-                let memory = random.bytes(room);
-                for makers in MAKERS {
-                    compare(makers, &sheet, &memory);
+    for makers in MAKERS {
+        let mut tried = 0;
+        while tried < 20 {
+            let sheet = generate::sheet(&mut random);
+            let Ok(made) = makers.1(&sheet, &mut [0; GUARD_BYTES_MOST]) else { continue };
+            if made.length <= 300 {
+                tried += 1;
+                for room in 0..made.length + 10 {
+                    compare(makers, &sheet, &random.bytes(room));
                 }
             }
         }

@@ -1,8 +1,8 @@
-//! The safe interface against the reference: the tables and the forecast read entry by entry, the
-//! refusals by their numbers, and a board's run.
+//! The safe interface against the reference: the tables, the forecast and the play read entry by entry,
+//! the refusals by their numbers, and a board's run.
 
 use conformance::{cases, generate, seed, subject, Random};
-use guard::{Board, Forecast, Guard, Refusal, Supervisor, Work};
+use guard::{Board, Forced, Forecast, Guard, Refusal, Supervisor, Work};
 use reference::{Kept, Mode, Product, Sheet, Values};
 
 /// Where the reference refuses a sheet, the wrapper gives the same number.
@@ -71,6 +71,33 @@ fn forecasts_are_read_as_they_are_meant() {
         let made = Forecast::make(&bytes, &mut work);
         match reference::forecast(&bytes) {
             Ok(found) => check_forecast(&made.expect("accepted"), &found),
+            Err(refusal) => refused(made, refusal.number()),
+        }
+    }
+}
+
+fn check_forced(made: &Forced, found: &[Option<reference::Force>]) {
+    assert_eq!((made.states(), made.get(made.states())), (found.len(), None));
+    assert_eq!(made.iter().len(), found.len());
+    for (state, (force, &found)) in made.iter().zip(found).enumerate() {
+        assert_eq!(force.map(|f| (f.steps, f.input)), found.map(|f| (f.steps, f.input)));
+        assert_eq!(made.get(state), force);
+    }
+}
+
+#[test]
+#[cfg_attr(not(guard_library), ignore = "needs the library: rt staticlib hundlezoqa_c")]
+fn plays_are_read_as_they_are_meant() {
+    let mut work = Work::new();
+    for case in 0..cases(2_000) {
+        let bytes = generate::any_sheet(&mut Random::new(seed(), case));
+        let made = Forced::make(&bytes, &mut work);
+        match reference::forced(&bytes) {
+            Ok(found) => {
+                let made = made.expect("lost");
+                check_forced(&made, &found);
+                assert_eq!(Ok(made.as_bytes()), reference::forced_bytes(&bytes).as_deref());
+            }
             Err(refusal) => refused(made, refusal.number()),
         }
     }
