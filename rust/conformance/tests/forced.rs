@@ -70,14 +70,9 @@ fn each_work_slice_has_its_own_bound() {
 #[cfg_attr(not(guard_library), ignore = "needs the library: rt staticlib hundlezoqa_c")]
 fn result_memory_of_every_length() {
     let mut random = Random::new(seed(), 0);
-    let mut tried = 0;
-    while tried < 40 {
+    for _ in 0..40 {
         let sheet = generate::lost_sheet(&mut random);
         let length = reference::forced_bytes(&sheet).expect("a play").len();
-        if !(2..200).contains(&(length / ENTRY)) {
-            continue;
-        }
-        tried += 1;
         for room in 0..length + 10 {
             let work = work::any(&mut random, 0);
             let number = compare_in(Kind::Forced, &sheet, room, work, &mut random);

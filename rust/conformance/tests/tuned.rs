@@ -67,16 +67,17 @@ fn tuned_makers_refuse_short_memory_alike() {
     let mut random = Random::new(seed(), 0);
     for makers in MAKERS {
         let mut tried = 0;
-        while tried < 20 {
+        for _ in 0..200 {
             let sheet = generate::sheet(&mut random);
-            let Ok(made) = makers.1(&sheet, &mut [0; GUARD_BYTES_MOST]) else { continue };
-            if made.length <= 300 {
+            let length = makers.1(&sheet, &mut [0; GUARD_BYTES_MOST]).map_or(0, |made| made.length);
+            if (1..=300).contains(&length) {
                 tried += 1;
-                for room in 0..made.length + 10 {
+                for room in 0..length + 10 {
                     compare(makers, &sheet, &random.bytes(room));
                 }
             }
         }
+        assert!(tried >= 20, "{}: {tried} tried", makers.0);
     }
 }
 

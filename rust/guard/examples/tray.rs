@@ -6,13 +6,16 @@
 use guard::sheet::Sheet;
 use guard::{Board, Forced, Forecast, Guard, Refusal, Supervisor, Work};
 
-fn main() -> Result<(), Refusal> {
-    // A letter is tray + 2 x open.
-    let never_twice = |state: u8, letter: u8| match (state, letter >> 1) {
+/// A letter is tray + 2 x open; state 2 is the break.
+fn never_twice(state: u8, letter: u8) -> u8 {
+    match (state, letter >> 1) {
         (2, _) => 2,
         (_, 1) => state + 1,
         _ => 0,
-    };
+    }
+}
+
+fn main() -> Result<(), Refusal> {
     let as_the_tray = |_, letter: u8| u8::from(letter == 0 || letter == 3);
     let sheet = Sheet::controller(1, 1)
         .horizon(1)
@@ -38,12 +41,16 @@ fn main() -> Result<(), Refusal> {
     }
     println!("{} steps", board.steps());
     board.unload()?;
+    beaten(&mut work)
+}
 
-    let too_much = Sheet::controller(1, 1)
+/// The lock that must be open with a tray: which trays force it to be open twice, or closed.
+fn beaten(work: &mut Work) -> Result<(), Refusal> {
+    let sheet = Sheet::controller(1, 1)
         .hard(3, |state| state < 2, never_twice)
         .hard(2, |state| state == 0, |_, letter| u8::from(letter == 1))
         .to_bytes();
-    for (state, force) in Forced::make(&too_much, &mut work)?.iter().enumerate() {
+    for (state, force) in Forced::make(&sheet, work)?.iter().enumerate() {
         println!("product state {state}: {force:?}");
     }
     Ok(())
