@@ -4,7 +4,7 @@
 //! library make its tables, and [`commands`] has a file for each command. Every number and every
 //! table is the library's. What it does not say, the reference tells, and only where both agree:
 //! where bytes are refused, which monitor states a product state stands for, where a step of the
-//! supervisor ends.
+//! supervisor or of a play ends.
 
 pub mod arguments;
 pub mod bench;

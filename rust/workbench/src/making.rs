@@ -1,6 +1,6 @@
-//! Tables and forecasts by the proved library, from sheets or as they were stored.
+//! Tables, forecasts and plays by the proved library, from sheets or as they were stored.
 
-use guard::{Forecast, Guard, Refusal, Supervisor, Work};
+use guard::{Forced, Forecast, Guard, Refusal, Supervisor, Work};
 
 use crate::bench::{Bench, Outcome, Stop};
 use crate::source::Source;
@@ -35,6 +35,11 @@ pub fn forecast(source: &Source, bench: &mut Bench) -> Result<Forecast, Stop> {
         .map_err(|refusal| refuse(refusal, source, bench))
 }
 
+/// The play that beats a sheet; a refusal is said.
+pub fn forced(source: &Source, bench: &mut Bench) -> Result<Forced, Stop> {
+    Forced::make(&source.bytes, &mut Work::new()).map_err(|refusal| refuse(refusal, source, bench))
+}
+
 /// Whether the refusal is found in the records of a sheet, so that its bytes are none.
 pub fn is_of_records(refusal: Refusal) -> bool {
     refusal.number() <= Refusal::LongHorizon.number()
@@ -52,6 +57,9 @@ pub fn in_bounds(source: &Source, bench: &mut Bench) -> Outcome {
 pub fn refuse(refusal: Refusal, source: &Source, bench: &mut Bench) -> Stop {
     bench.say(format!("{}: {refusal}", source.file));
     hint(refusal, source, bench);
+    if refusal == Refusal::Unrealizable {
+        bench.say("how it is beaten is told by: guard forced FILE");
+    }
     Stop::Refused
 }
 

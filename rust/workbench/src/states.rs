@@ -1,10 +1,11 @@
 //! What product states and guard states stand for, by the names of monitor states.
 //!
 //! The library numbers product states and does not say which monitor states they are made of. The
-//! reference does; it is asked only where its supervisor table is the library's, byte for byte.
+//! reference does; it is asked only where its supervisor table is the library's, byte for byte, or of
+//! an unrealizable sheet its play.
 
 use guard::sheet::{Mode, Role};
-use guard::{Guard, Supervisor};
+use guard::{Forced, Guard, Supervisor};
 use reference::Product;
 
 use crate::names::MonitorNames;
@@ -27,9 +28,16 @@ impl States {
     /// Nothing where reference and library differ.
     pub fn of(source: &Source, supervisor: &Supervisor) -> Option<States> {
         let table = reference::supervisor_table(&source.bytes).ok()?;
-        if table != supervisor.as_bytes() {
-            return None;
-        }
+        (table == supervisor.as_bytes()).then(|| States::of_sheet(source))?
+    }
+
+    /// Of an unrealizable sheet; nothing where reference and library differ.
+    pub fn of_forced(source: &Source, forced: &Forced) -> Option<States> {
+        let play = reference::forced_bytes(&source.bytes).ok()?;
+        (play == forced.as_bytes()).then(|| States::of_sheet(source))?
+    }
+
+    fn of_sheet(source: &Source) -> Option<States> {
         let product = Product::explore(&reference::Sheet::parse(&source.bytes).ok()?).ok()?;
         Some(States { named: source.named()?, product })
     }
@@ -50,6 +58,22 @@ impl States {
         };
         let own = all.iter().map(&mut place).collect();
         (own, all.iter().filter(copied).map(&mut place).collect())
+    }
+
+    /// The monitors of a product state by name, each with its state, after a colon; nothing where
+    /// there are none.
+    pub fn described(&self, state: usize) -> String {
+        let told = |places: Vec<MonitorState>| {
+            let each =
+                places.iter().map(|MonitorState { monitor, state }| format!("{monitor} {state}"));
+            each.collect::<Vec<_>>().join(", ")
+        };
+        let (monitors, copies) = self.monitors(state);
+        match (monitors.is_empty(), copies.is_empty()) {
+            (true, _) => String::new(),
+            (_, true) => format!(": {}", told(monitors)),
+            _ => format!(": {}; proposal {}", told(monitors), told(copies)),
+        }
     }
 
     /// The monitors' states in order; those of the copies in brackets.

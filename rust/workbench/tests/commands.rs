@@ -8,9 +8,18 @@ use common::{files, guard, repository, sheet, Folder};
 fn help_is_an_answer() {
     let all = guard(&["--help"], b"");
     assert_eq!((all.status, all.err.as_str()), (0, ""));
-    for command in
-        ["compile", "show", "check", "list", "supervisor", "forecast", "make", "dot", "run"]
-    {
+    for command in [
+        "compile",
+        "show",
+        "check",
+        "forced",
+        "list",
+        "supervisor",
+        "forecast",
+        "make",
+        "dot",
+        "run",
+    ] {
         assert!(all.text().contains(&format!("guard {command} FILE")), "{command}");
         let one = guard(&[command, "--help"], b"");
         assert_eq!((one.status, one.err.as_str()), (0, ""));
@@ -133,6 +142,7 @@ fn refusals_are_told_in_words() {
         for command in ["supervisor", "forecast", "dot"] {
             let done = guard(&[command, &sheet(&format!("{name}.hex"))], b"");
             assert_eq!((done.status, done.out.len()), (1, 0));
+            assert_eq!(done.err.contains("guard forced FILE"), number == 8, "{}", done.err);
         }
     }
     for (length, text) in [(16_384, "refused 2\n"), (16_385, "too long\n")] {
@@ -203,7 +213,7 @@ fn files_are_taken_for_their_content() {
     let guard_table = reference::guard_table(&bytes).expect("accepted");
     let supervisor_table = reference::supervisor_table(&bytes).expect("accepted");
     for (table, kind) in [(guard_table, "guard"), (supervisor_table, "supervisor")] {
-        for command in ["check", "show", "supervisor", "forecast", "compile"] {
+        for command in ["check", "show", "forced", "supervisor", "forecast", "compile"] {
             let done = guard(&[command, "-"], &table);
             assert!(done.err.contains(&format!("as a {kind} table does")), "{}", done.err);
             assert_eq!((done.status, done.text().contains("bytes")), (1, false), "{command}");

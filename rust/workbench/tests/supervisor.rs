@@ -2,43 +2,12 @@
 
 mod common;
 
-use common::{guard, hexadecimal, setting, sheet};
+use common::{guard, hexadecimal, input_name, monitors, setting, sheet};
 use conformance::{cases, generate, seed, Random};
 use guard::{Guard, Supervisor, Work};
-use reference::{Kept, Mode, Product, Role, Sheet};
+use reference::{Kept, Mode, Product, Sheet};
 use workbench::source::Source;
 use workbench::states::States;
-
-/// A guard's input by made-up names.
-fn input_name(sheet: &Sheet, input: u8) -> String {
-    let site = setting("in", sheet.site_lines, input);
-    let proposal = setting("out", sheet.outputs, input >> sheet.site_lines);
-    match (sheet.mode, sheet.site_lines) {
-        (Mode::Controller, 0) => "any".to_string(),
-        (Mode::Controller, _) => site,
-        (Mode::Shield, 0) => format!("/ {proposal}"),
-        (Mode::Shield, _) => format!("{site} / {proposal}"),
-    }
-}
-
-/// The monitors of a product state by made-up names, then the copies.
-fn monitors(sheet: &Sheet, tuple: &[u8]) -> String {
-    let name = |j: usize| match sheet.monitors[j].role {
-        Role::Hard => format!("hard{j}"),
-        Role::Soft => format!("soft{j}"),
-        Role::Limit => format!("limit{j}"),
-    };
-    let count = sheet.monitors.len();
-    let own: Vec<String> = (0..count).map(|j| format!("{} s{}", name(j), tuple[j])).collect();
-    let hard = (0..count).filter(|&j| sheet.monitors[j].role == Role::Hard);
-    let copies: Vec<String> =
-        hard.zip(&tuple[count..]).map(|(j, state)| format!("{} s{state}", name(j))).collect();
-    match (own.is_empty(), sheet.mode == Mode::Shield && !copies.is_empty()) {
-        (true, _) => String::new(),
-        (_, false) => format!(": {}", own.join(", ")),
-        (_, true) => format!(": {}; proposal {}", own.join(", "), copies.join(", ")),
-    }
-}
 
 /// The whole text.
 fn expected(sheet: &Sheet, product: &Product, kept: &Kept) -> String {

@@ -1,13 +1,15 @@
 //! `guard check`: whether a sheet is accepted, and if not, why and where.
 
-use guard::{Guard, Refusal, Supervisor, Work};
+use guard::{Forced, Guard, Refusal, Supervisor, Work};
 use reference::{Fault, Kept, Product, Sheet};
 
+use super::forced::steps;
 use super::Command;
 use crate::arguments::Arguments;
 use crate::bench::{Bench, Outcome, Stop};
 use crate::making;
 use crate::source::Source;
+use crate::states::States;
 
 pub const COMMAND: Command = Command {
     name: "check",
@@ -15,7 +17,8 @@ pub const COMMAND: Command = Command {
     about: "whether a sheet is accepted; if not, why and where",
     help: "\
 Prints the number of states and the lengths of both tables; or the refusal's number, its ground, and
-the record and byte where it is found. The number is the proved library's. The place is told by an
+the record and byte where it is found, or of an unrealizable sheet in how many steps a break is forced,
+and by which input first. All numbers are the proved library's. Places and names are told by an
 independent reader; should that one differ, the number stands alone and the exit status is 3.
 ",
     files: 1,
@@ -30,7 +33,7 @@ fn run(arguments: &Arguments, bench: &mut Bench) -> Outcome {
         .and_then(|supervisor| Ok((supervisor, Guard::make(&source.bytes, &mut work)?)));
     match tables {
         Ok((supervisor, guard)) => accepted(&source, &supervisor, &guard, bench),
-        Err(refusal) => refused(&source, refusal, found(&source.bytes), bench),
+        Err(refusal) => refused(&source, refusal, found(&source), bench),
     }
 }
 
@@ -45,20 +48,33 @@ fn accepted(source: &Source, supervisor: &Supervisor, guard: &Guard, bench: &mut
     Ok(())
 }
 
-/// What the reference finds: a refusal's number, and for 1 to 6 where.
-fn found(bytes: &[u8]) -> (u32, Option<String>) {
-    let sheet = match Sheet::read(bytes) {
+/// What the reference finds: a refusal's number, and for 1 to 6 where, for 8 how it is forced; 0 where
+/// none is found, or another play than the library's.
+fn found(source: &Source) -> (u32, Option<String>) {
+    let sheet = match Sheet::read(&source.bytes) {
         Ok(sheet) => sheet,
         Err(fault) => {
             return (fault.refusal.number(), Some(place(&fault)));
         }
     };
-    let number = match Product::explore(&sheet) {
-        Err(refusal) => refusal.number(),
-        Ok(product) if !Kept::by_rounds(&product).is_kept(0) => Refusal::Unrealizable.number(),
-        Ok(_) => 0,
-    };
-    (number, None)
+    match Product::explore(&sheet) {
+        Err(refusal) => (refusal.number(), None),
+        Ok(product) if Kept::by_rounds(&product).is_kept(0) => (0, None),
+        Ok(_) => match beaten(source) {
+            Some(how) => (Refusal::Unrealizable.number(), Some(how)),
+            None => (0, None),
+        },
+    }
+}
+
+/// How a sheet is beaten, by the library; nothing where the reference differs.
+fn beaten(source: &Source) -> Option<String> {
+    let forced = Forced::make(&source.bytes, &mut Work::new()).ok()?;
+    let named = States::of_forced(source, &forced)?.named;
+    let force = forced.get(0)?;
+    let input = named.names.input(named.sheet.mode, force.input);
+    let steps = steps(force.steps);
+    Some(format!("a break is forced in {steps}, first input {input}; guard forced tells the play"))
 }
 
 /// Record, byte and words of a fault; record 0 is the head, and monitors are counted from 0.
@@ -76,7 +92,7 @@ fn place(fault: &Fault) -> String {
 fn refused(
     source: &Source,
     refusal: Refusal,
-    (number, place): (u32, Option<String>),
+    (number, detail): (u32, Option<String>),
     bench: &mut Bench,
 ) -> Outcome {
     if number != refusal.number() {
@@ -84,8 +100,8 @@ fn refused(
         return Err(bench.differs());
     }
     writeln!(bench.out, "{}: {refusal}", source.file)?;
-    if let Some(place) = place {
-        writeln!(bench.out, "  {place}")?;
+    if let Some(detail) = detail {
+        writeln!(bench.out, "  {detail}")?;
     }
     making::hint(refusal, source, bench);
     Err(Stop::Refused)

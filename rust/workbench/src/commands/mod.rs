@@ -3,6 +3,7 @@
 mod check;
 mod compile;
 mod dot;
+mod forced;
 mod forecast;
 mod list;
 mod make;
@@ -35,6 +36,7 @@ pub const COMMANDS: &[Command] = &[
     compile::COMMAND,
     show::COMMAND,
     check::COMMAND,
+    forced::COMMAND,
     list::COMMAND,
     supervisor::COMMAND,
     forecast::COMMAND,

@@ -7,7 +7,7 @@ use crate::arguments::Arguments;
 use crate::bench::{Bench, Outcome};
 use crate::making;
 use crate::source::Source;
-use crate::states::{MonitorState, States};
+use crate::states::States;
 
 pub const COMMAND: Command = Command {
     name: "supervisor",
@@ -31,27 +31,12 @@ fn run(arguments: &Arguments, bench: &mut Bench) -> Outcome {
     };
     for state in 0..supervisor.states() {
         let lost = if supervisor.is_kept(state) { "" } else { ", lost" };
-        writeln!(bench.out, "state {state}{}{lost}", described(&states, state))?;
+        writeln!(bench.out, "state {state}{}{lost}", states.described(state))?;
         if supervisor.is_kept(state) {
             write_inputs(&supervisor, &states, state, bench)?;
         }
     }
     Ok(())
-}
-
-/// The monitors by name, each with its state.
-fn described(states: &States, state: usize) -> String {
-    let told = |places: Vec<MonitorState>| {
-        let each =
-            places.iter().map(|MonitorState { monitor, state }| format!("{monitor} {state}"));
-        each.collect::<Vec<_>>().join(", ")
-    };
-    let (monitors, copies) = states.monitors(state);
-    match (monitors.is_empty(), copies.is_empty()) {
-        (true, _) => String::new(),
-        (_, true) => format!(": {}", told(monitors)),
-        _ => format!(": {}; proposal {}", told(monitors), told(copies)),
-    }
 }
 
 fn write_inputs(

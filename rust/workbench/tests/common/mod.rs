@@ -6,6 +6,7 @@ use std::ffi::OsString;
 use std::path::PathBuf;
 
 use conformance::Random;
+use reference::{Mode, Role, Sheet};
 use workbench::bench::{Bench, Stop};
 use workbench::commands;
 
@@ -92,6 +93,37 @@ pub fn setting(word: &str, lines: u8, bits: u8) -> String {
         _ => format!("!{word}{line}"),
     };
     (0..lines).map(stands).collect::<Vec<_>>().join(" ")
+}
+
+/// A guard's input by made-up names.
+pub fn input_name(sheet: &Sheet, input: u8) -> String {
+    let site = setting("in", sheet.site_lines, input);
+    let proposal = setting("out", sheet.outputs, input >> sheet.site_lines);
+    match (sheet.mode, sheet.site_lines) {
+        (Mode::Controller, 0) => "any".to_string(),
+        (Mode::Controller, _) => site,
+        (Mode::Shield, 0) => format!("/ {proposal}"),
+        (Mode::Shield, _) => format!("{site} / {proposal}"),
+    }
+}
+
+/// The monitors of a product state by made-up names, then the copies.
+pub fn monitors(sheet: &Sheet, tuple: &[u8]) -> String {
+    let name = |j: usize| match sheet.monitors[j].role {
+        Role::Hard => format!("hard{j}"),
+        Role::Soft => format!("soft{j}"),
+        Role::Limit => format!("limit{j}"),
+    };
+    let count = sheet.monitors.len();
+    let own: Vec<String> = (0..count).map(|j| format!("{} s{}", name(j), tuple[j])).collect();
+    let hard = (0..count).filter(|&j| sheet.monitors[j].role == Role::Hard);
+    let copies: Vec<String> =
+        hard.zip(&tuple[count..]).map(|(j, state)| format!("{} s{state}", name(j))).collect();
+    match (own.is_empty(), sheet.mode == Mode::Shield && !copies.is_empty()) {
+        (true, _) => String::new(),
+        (_, false) => format!(": {}", own.join(", ")),
+        (_, true) => format!(": {}; proposal {}", own.join(", "), copies.join(", ")),
+    }
 }
 
 /// Bytes as hexadecimal text.

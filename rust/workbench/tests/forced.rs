@@ -1,0 +1,190 @@
+//! `guard forced` against the reference: every state of the play once, with its names, its steps, its
+//! input, and what each output leads to; and the refusals.
+
+mod common;
+
+use common::{guard, hexadecimal, input_name, monitors, setting, sheet};
+use conformance::{cases, generate, seed, Random};
+use guard::{Forced, Work};
+use reference::{Force, Mode, Product, Sheet};
+use workbench::source::Source;
+use workbench::states::States;
+
+fn steps(count: u16) -> String {
+    match count {
+        1 => "1 step".to_string(),
+        _ => format!("{count} steps"),
+    }
+}
+
+/// What is printed of a state of the play.
+fn turn(sheet: &Sheet, product: &Product, forces: &[Option<Force>], state: usize) -> String {
+    let left = |state: usize| {
+        let force = forces[state].expect("the play comes to no kept state");
+        format!("{} left, input {}", steps(force.steps), input_name(sheet, force.input))
+    };
+    let names = monitors(sheet, product.tuple(state));
+    let mut text = format!("state {state}{names}\n  {}\n", left(state));
+    let after = answers(product, forces, state);
+    if after.iter().all(Option::is_none) {
+        return text + "    every output is broken\n";
+    }
+    let outputs: Vec<String> =
+        (0..after.len()).map(|output| setting("out", sheet.outputs, output as u8)).collect();
+    let width = outputs.iter().map(String::len).max().unwrap();
+    for (output, next) in outputs.iter().zip(after) {
+        let leads = next.map(|next| format!("state {next}: {}", left(next)));
+        text += &format!("    {output:width$}  {}\n", leads.unwrap_or("broken".to_string()));
+    }
+    text
+}
+
+/// The states after each output to the input that is given in a state; nothing where it is broken.
+fn answers(product: &Product, forces: &[Option<Force>], state: usize) -> Vec<Option<usize>> {
+    let input = forces[state].expect("lost").input;
+    let next = |output| product.edge(state, input.into(), output).next();
+    (0..product.output_count()).map(next).collect()
+}
+
+/// The states that the play comes to, as first met.
+fn reached(product: &Product, forces: &[Option<Force>]) -> Vec<usize> {
+    let mut found = vec![0];
+    for place in 0.. {
+        let Some(&state) = found.get(place) else { break };
+        for next in answers(product, forces, state).into_iter().flatten() {
+            if !found.contains(&next) {
+                found.push(next);
+            }
+        }
+    }
+    found
+}
+
+#[test]
+#[cfg_attr(not(guard_library), ignore = "needs the library: rt staticlib hundlezoqa_c")]
+fn plays_are_told_whole() {
+    let (mut shields, mut long, mut parts) = (0, 0, 0);
+    for case in 0..cases(1_000) {
+        let bytes = generate::lost_sheet(&mut Random::new(seed(), case));
+        let forces = reference::forced(&bytes).expect("lost");
+        let sheet = Sheet::parse(&bytes).expect("in bounds");
+        let product = Product::explore(&sheet).expect("few states");
+        let play = reached(&product, &forces);
+        let turns: String = play.iter().map(|&s| turn(&sheet, &product, &forces, s)).collect();
+        let first = steps(forces[0].expect("lost").steps);
+        let done = guard(&["forced", "-"], hexadecimal(&bytes).as_bytes());
+        assert_eq!((done.status, done.err.as_str()), (0, ""), "case {case}");
+        assert_eq!(done.text(), format!("a break is forced in {first}\n{turns}"), "case {case}");
+        shields += usize::from(sheet.mode == Mode::Shield);
+        long += usize::from(play.len() > 3);
+        parts += usize::from(play.len() < product.count());
+    }
+    println!("{shields} shields, {long} of four states or more, {parts} that leave states out");
+    assert!(shields > 20 && long > 20 && parts > 20, "too few of a sort");
+}
+
+/// A shield that may never deviate, before a controller that opens twice: names of the text.
+#[test]
+#[cfg_attr(not(guard_library), ignore = "needs the library: rt staticlib hundlezoqa_c")]
+fn a_shield_s_play_has_site_and_proposal() {
+    let text = "\
+mode shield
+in tray
+out open
+horizon 0
+prefer open
+hard never_open_twice
+  state closed start accept
+    open -> once
+    else -> closed
+  state once accept
+    open -> twice
+    else -> closed
+  state twice
+    else -> twice
+limit never_deviates
+  state agreed start accept
+    differ -> deviated
+    else -> agreed
+  state deviated
+    else -> deviated
+";
+    let play = "\
+a break is forced in 2 steps
+state 0: never_open_twice closed, never_deviates agreed; proposal never_open_twice closed
+  2 steps left, input !tray / open
+    !open  broken
+    open   state 1: 1 step left, input !tray / open
+state 1: never_open_twice once, never_deviates agreed; proposal never_open_twice once
+  1 step left, input !tray / open
+    every output is broken
+";
+    let done = guard(&["forced", "-"], text.as_bytes());
+    assert_eq!((done.text().as_str(), done.status), (play, 0));
+    let line =
+        "a break is forced in 2 steps, first input !tray / open; guard forced tells the play";
+    let done = guard(&["check", "-"], text.as_bytes());
+    assert_eq!((done.text().lines().nth(1), done.status), (Some(&*format!("  {line}")), 1));
+}
+
+/// Three clients request; whichever is served, the other two do so again.
+#[test]
+#[cfg_attr(not(guard_library), ignore = "needs the library: rt staticlib hundlezoqa_c")]
+fn a_play_goes_on_after_each_answer() {
+    let text = guard(&["forced", &sheet("arbiter_tight.sheet")], b"").text();
+    let indented = |line: &&str| line.starts_with(' ');
+    let lines: Vec<&str> = text.lines().filter(indented).map(str::trim).collect();
+    let last = "every output is broken";
+    let play = [
+        "2 steps left, input req1 req2 req3",
+        "!ack1 !ack2 !ack3  broken",
+        "ack1 !ack2 !ack3   state 3: 1 step left, input !req1 req2 req3",
+        "!ack1 ack2 !ack3   state 5: 1 step left, input req1 !req2 req3",
+        "ack1 ack2 !ack3    broken",
+        "!ack1 !ack2 ack3   state 6: 1 step left, input req1 req2 !req3",
+        "ack1 !ack2 ack3    broken",
+        "!ack1 ack2 ack3    broken",
+        "ack1 ack2 ack3     broken",
+        "1 step left, input !req1 req2 req3",
+        last,
+        "1 step left, input req1 !req2 req3",
+        last,
+        "1 step left, input req1 req2 !req3",
+        last,
+    ];
+    assert_eq!(lines, play);
+}
+
+/// What can be kept is refused 23, in words on standard error; other refusals are the sheet's.
+#[test]
+#[cfg_attr(not(guard_library), ignore = "needs the library: rt staticlib hundlezoqa_c")]
+fn other_sheets_are_refused() {
+    for (name, words) in [
+        ("A.sheet", "refused 23: realizable: the start is kept"),
+        // Two of its states are lost, but not the start.
+        ("limit.sheet", "refused 23: realizable: the start is kept"),
+        ("counters-32-9.sheet", "refused 7: more than 256 product states"),
+        ("P10.hex", "refused 5: a seventh monitor"),
+    ] {
+        let done = guard(&["forced", &sheet(name)], b"");
+        assert_eq!((done.status, done.out.len()), (1, 0), "{name}");
+        assert!(done.err.contains(words), "{name}: {}", done.err);
+    }
+}
+
+/// Names are told only of the play that they are of.
+#[test]
+#[cfg_attr(not(guard_library), ignore = "needs the library: rt staticlib hundlezoqa_c")]
+fn another_sheet_s_play_has_no_names() {
+    let source = |name: &str| {
+        let bytes = guard(&["compile", &sheet(name)], b"").out;
+        Source::of_bytes(name, bytes)
+    };
+    let (p3, tight) = (source("P3.sheet"), source("arbiter_tight.sheet"));
+    let forced =
+        |source: &Source| Forced::make(&source.bytes, &mut Work::new()).expect("unrealizable");
+    assert!(States::of_forced(&p3, &forced(&p3)).is_some());
+    assert!(States::of_forced(&tight, &forced(&tight)).is_some());
+    assert!(States::of_forced(&p3, &forced(&tight)).is_none());
+    assert!(States::of_forced(&source("A.sheet"), &forced(&p3)).is_none());
+}
