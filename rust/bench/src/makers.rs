@@ -23,11 +23,13 @@ pub trait Maker {
 pub const TABLES: &[&dyn Maker] = &[&SUPERVISOR, &GUARD];
 /// The same and the forecast's.
 pub const ALL: &[&dyn Maker] = &[&SUPERVISOR, &GUARD, &Forecast];
+/// What the play is made by.
+pub const PLAY: &[&dyn Maker] = &[&FORCED];
 
 type ByLibrary = fn(&[u8], &mut [u8], &mut Work, &mut [u64; calls::FIGURES]) -> u32;
 type InRust = fn(&[u8], &mut [u8]) -> Result<Made, Refusal>;
 
-/// The makers of one kind of table.
+/// The makers of one kind of table, or of the play.
 pub struct Table {
     name: &'static str,
     rattle: ByLibrary,
@@ -47,6 +49,13 @@ pub const GUARD: Table = Table {
     rattle: calls::make_guard,
     plain: reference::make_guard,
     tuned: tuned::make_guard,
+};
+
+const FORCED: Table = Table {
+    name: "forced",
+    rattle: calls::forced,
+    plain: reference::make_forced,
+    tuned: tuned::make_forced,
 };
 
 impl Maker for Table {

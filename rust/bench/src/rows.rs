@@ -3,7 +3,7 @@
 use conformance::{generate, Random};
 use reference::{Kept, Product, Refusal, Sheet, GUARD_BYTES_MOST};
 
-use crate::makers::{Maker, ALL, TABLES};
+use crate::makers::{Maker, ALL, PLAY, TABLES};
 use crate::sheets;
 use crate::timing::{Effort, Runs, COLUMNS};
 
@@ -79,7 +79,8 @@ impl Group {
 
 const HEADS: &str = "states guard rounds letters";
 
-/// What sheets come to: product states, guard states, rounds and letters; or the refusal.
+/// What sheets come to: product states, guard states (none of an unrealizable sheet), rounds and letters;
+/// or the refusal.
 fn size(sheets: &[Vec<u8>]) -> String {
     let letters = sheets.iter().map(|sheet| {
         let sheet = Sheet::parse(sheet).expect("the sheet is read");
@@ -87,20 +88,20 @@ fn size(sheets: &[Vec<u8>]) -> String {
     });
     let (least, most) = letters.fold((usize::MAX, 0), |(a, b), l| (a.min(l), b.max(l)));
     let letters = if least == most { most.to_string() } else { format!("{least}-{most}") };
-    match reference::make_guard(&sheets[0], &mut [0; GUARD_BYTES_MOST]) {
-        Err(refusal) => format!("{:<19} {letters:>7}", refusal.to_string()),
-        Ok(guard) => {
-            let sheet = Sheet::parse(&sheets[0]).expect("accepted");
-            let product = Product::explore(&sheet).expect("accepted");
-            let rounds = Kept::by_rounds(&product).rounds();
-            format!("{:>6} {:>5} {rounds:>6} {letters:>7}", product.count(), guard.states)
-        }
-    }
+    let guard = match reference::make_guard(&sheets[0], &mut [0; GUARD_BYTES_MOST]) {
+        Ok(guard) => guard.states.to_string(),
+        Err(Refusal::Unrealizable) => "-".to_string(),
+        Err(refusal) => return format!("{:<19} {letters:>7}", refusal.to_string()),
+    };
+    let sheet = Sheet::parse(&sheets[0]).expect("the sheet is read");
+    let product = Product::explore(&sheet).expect("few states");
+    let rounds = Kept::by_rounds(&product).rounds();
+    format!("{:>6} {guard:>5} {rounds:>6} {letters:>7}", product.count())
 }
 
 /// All groups of rows.
 pub fn all() -> Vec<Group> {
-    vec![general(), few_letters(), refused(), one_hash(), shields(), long_horizons()]
+    vec![general(), lost(), few_letters(), refused(), one_hash(), shields(), long_horizons()]
 }
 
 fn general() -> Group {
@@ -117,6 +118,16 @@ fn general() -> Group {
 
 fn named((name, sheet): (&str, Vec<u8>)) -> (String, Vec<u8>) {
     (name.to_string(), sheet)
+}
+
+fn lost() -> Group {
+    let rows = [
+        ("at once, 64 letters", sheets::lost_at_once()),
+        ("shield", sheets::lost_shield()),
+        ("longest, 64 letters", generate::longest_play(4, 2)),
+        ("longest, 2 letters", generate::longest_play(0, 1)),
+    ];
+    Group::by(PLAY, "unrealizable", rows.map(named).into())
 }
 
 fn few_letters() -> Group {
@@ -198,15 +209,15 @@ mod tests {
 
     #[test]
     fn sheets_come_to_what_they_are_named_for() {
-        let refused = |group: &Group| {
-            group
-                .rows
-                .iter()
-                .flat_map(|row| &row.sheets)
-                .all(|sheet| reference::guard_table(sheet) == Err(Refusal::TooManyStates))
-        };
         for group in all() {
-            assert_eq!(refused(&group), group.name == "refused 7", "{}", group.name);
+            let expected = match group.name {
+                "refused 7" => Some(Refusal::TooManyStates),
+                "unrealizable" => Some(Refusal::Unrealizable),
+                _ => None,
+            };
+            for sheet in group.rows.iter().flat_map(|row| &row.sheets) {
+                assert_eq!(reference::guard_table(sheet).err(), expected, "{}", group.name);
+            }
         }
         assert_eq!(super::refused().rows.last().map(|row| row.sheets.len()), Some(20));
     }

@@ -115,6 +115,17 @@ pub fn shield_with(
     sheet.counter(counter, 0).to_bytes()
 }
 
+/// 256 product states of two counters, and a monitor that the last input breaks at once.
+pub fn lost_at_once() -> Vec<u8> {
+    let sheet = controller(4, 2, 6).counter(32, 4).counter(8, 5);
+    sheet.hard(2, |state| state == 0, |_, letter| u8::from(letter % 16 == 15)).to_bytes()
+}
+
+/// 128 product states: a shield that may never deviate, whatever the controller proposes.
+pub fn lost_shield() -> Vec<u8> {
+    shield_with(2, 2, 6, 2, 0, 32)
+}
+
 /// Some 240 rounds. Output 0 on spends one of the first monitor's states and refills the second;
 /// output 0 off spends one of the second's. At the start alone, output 1 on leads to safety.
 pub fn chain() -> Vec<u8> {
