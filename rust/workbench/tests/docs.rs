@@ -1,5 +1,5 @@
 //! docs/SHEETS.md and README.md: their sheets compile as those of the repository, their taps are
-//! answered and their cards forecast as they say.
+//! answered, their cards forecast and their plays told as they say.
 
 mod common;
 
@@ -90,6 +90,20 @@ fn the_cards_are_as_told() {
         let blocks = blocks(section(&document, heading));
         let shown = blocks.iter().find(|block| block.starts_with("average")).expect("a card");
         assert_eq!(shown.trim_end(), card.trim_end(), "{file}");
+    }
+}
+
+/// P3 is what is wrong: its check and its play.
+#[test]
+#[cfg_attr(not(guard_library), ignore = "needs the library: rt staticlib hundlezoqa_c")]
+fn the_plays_are_as_told() {
+    let document = std::fs::read_to_string(repository("docs/SHEETS.md")).expect("there");
+    let blocks = blocks(section(&document, "## When something is wrong"));
+    let file = sheet("P3.sheet");
+    for (command, begin) in [("check", "sheets/P3.sheet: refused"), ("forced", "a break is")] {
+        let shown = blocks.iter().find(|block| block.starts_with(begin)).expect("it is shown");
+        let told = guard(&[command, &file], b"").text().replace(&file, "sheets/P3.sheet");
+        assert_eq!(shown.trim_end(), told.trim_end(), "{command}");
     }
 }
 
