@@ -83,11 +83,8 @@ fn plays_are_told_whole() {
     assert!(shields > 20 && long > 20 && parts > 20, "too few of a sort");
 }
 
-/// A shield that may never deviate, before a controller that opens twice: names of the text.
-#[test]
-#[cfg_attr(not(guard_library), ignore = "needs the library: rt staticlib hundlezoqa_c")]
-fn a_shield_s_play_has_site_and_proposal() {
-    let text = "\
+/// A shield that may never deviate, before a controller that opens twice.
+const NEVER_DEVIATES: &str = "\
 mode shield
 in tray
 out open
@@ -109,7 +106,9 @@ limit never_deviates
   state deviated
     else -> deviated
 ";
-    let play = "\
+
+/// Its play.
+const OPENS_TWICE: &str = "\
 a break is forced in 2 steps
 state 0: never_open_twice closed, never_deviates agreed; proposal never_open_twice closed
   2 steps left, input !tray / open
@@ -119,11 +118,16 @@ state 1: never_open_twice once, never_deviates agreed; proposal never_open_twice
   1 step left, input !tray / open
     every output is broken
 ";
-    let done = guard(&["forced", "-"], text.as_bytes());
-    assert_eq!((done.text().as_str(), done.status), (play, 0));
+
+/// Names are the text's; an input has site and proposal.
+#[test]
+#[cfg_attr(not(guard_library), ignore = "needs the library: rt staticlib hundlezoqa_c")]
+fn a_shield_s_play_has_site_and_proposal() {
+    let done = guard(&["forced", "-"], NEVER_DEVIATES.as_bytes());
+    assert_eq!((done.text().as_str(), done.status), (OPENS_TWICE, 0));
     let line =
         "a break is forced in 2 steps, first input !tray / open; guard forced tells the play";
-    let done = guard(&["check", "-"], text.as_bytes());
+    let done = guard(&["check", "-"], NEVER_DEVIATES.as_bytes());
     assert_eq!((done.text().lines().nth(1), done.status), (Some(&*format!("  {line}")), 1));
 }
 
