@@ -18,8 +18,8 @@ use Rattle.records.specs.Meaning.Numbers.{zeros}
 use Rattle.sheet.specs.Meaning.Decoded.{Decoded, SheetOk}
 use Rattle.product.specs.Meaning.Step.{inputsOf, outputsOf, advance, unbroken, firstTuple}
 use Rattle.product.specs.Meaning.States.{Reached}
-use Rattle.product.specs.Model.ProductNumbering.{productStates, stateCount, stateOf, numberOf}
-use Rattle.product.specs.Laws.ProductNumbering.{state-number, state-reached}
+use Rattle.product.specs.Model.ProductNumbering.{productStates, stateCount, stateOf}
+use Rattle.product.specs.Laws.ProductNumbering.{state-reached}
 use Rattle.product.specs.Laws.Counts.{inputs-most}
 use Rattle.product.specs.Laws.Ordered.{product-states}
 use Rattle.game.specs.Model.Rounds.{keptAfter, droppedBy, may}
@@ -33,7 +33,7 @@ use Rattle.forced_rows.specs.Model.ForcedRows.{beforeRound, forcesAt, forcingIn
 use Rattle.forced_rows.specs.Laws.ForcedRows.{before-in, forcing-lowest, forcing-kept, rows-answer, length-forced-rows}
 use Rattle.solve.specs.Meaning.Allowed.{Kept, Lost}
 use Rattle.solve.specs.Model.Steps.{cellsOf, droppedOf}
-use Rattle.solve.specs.Laws.Entries.{dropped-is, in-kept, settled-quiet, in-iff, out-iff, leads-after}
+use Rattle.solve.specs.Laws.Entries.{dropped-is, in-kept, settled-quiet, state-in, state-out, leads-after}
 use Rattle.forced.specs.Meaning.Play.{ForcedFrom, HoldsOut}
 use Rattle.forced.specs.Model.ForcedOfSheet.{forcedOf}
 use Rattle.forced.specs.Promises.ForcedMaker.{Shows}
@@ -67,18 +67,9 @@ module _ (d : Decoded) (fits : stateCount d ≤ maxStates) where
     most : stepsOf k ≤ stateCount d
     most = rw (dropped-is d fits k h) (dropped-le (List ℕ) (inputsOf d) (outputsOf d) (advance d) (unbroken d) (stateCount d) (stateOf d k))
 
-    number : numberOf d (stateOf d k) ≡ k
-    number = state-number d fits k h
-
-    in-is : (isIn (droppedOf d) k ≡ true) ↔ Kept d (stateOf d k)
-    in-is = rw number at (in-iff d fits (stateOf d k) (state-reached d k h))
-
-    out-is : (isIn (droppedOf d) k ≡ false) ↔ Lost d (stateOf d k)
-    out-is = rw number at (out-iff d fits (stateOf d k) (state-reached d k h))
-
     -- ---- a state that is dropped
 
-    module _ (m : ℕ) (out : stepsOf k ≡ suc m) where
+    module _ (m : ℕ) (out : stepsOf k ≡ suc m) (lost : isIn (droppedOf d) k ≡ false) where
       -- an input forces exactly if none of its answers may be given after m rounds
       forces-any : (i : ℕ) → i < inputsOf d
           → forcesAt (cellsOf d) (droppedOf d) (inputsOf d) (outputsOf d) k i
@@ -88,10 +79,6 @@ module _ (d : Decoded) (fits : stateCount d ≤ maxStates) where
           rw out
           (ap not (any-cong (outputsOf d) _ _ (λ o ho.
           leads-after d fits (beforeRound (suc m) (droppedOf d)) m (in-before m (omega (arith, most))) k i o h hi ho)))
-
-      lost : isIn (droppedOf d) k ≡ false
-      unfolding isIn
-      lost = ne-eqb (stepsOf k) 0 (λ z. omega arith)
 
       forced-is : ForcedFrom d (stateOf d k) (suc m) (inputOf k)
       forced-is =
@@ -116,18 +103,18 @@ module _ (d : Decoded) (fits : stateCount d ≤ maxStates) where
 
     kept-zero : (stepsOf k ≡ 0) ↔ Kept d (stateOf d k)
     kept-zero = (
-      λ z. cases (λ e y. in-is .0 y) (λ m e y. absurd (omega arith)),
-      λ q. cases (λ e y. e) (λ m e y. both-ways (in-is .1 q) y),
+      λ z. cases (λ e y. state-in d fits k h .0 y) (λ m e y. absurd (omega arith)),
+      λ q. cases (λ e y. e) (λ m e y. both-ways (state-in d fits k h .1 q) y),
     )
 
     lost-some : (0 < stepsOf k) ↔ Lost d (stateOf d k)
     lost-some = (
-      λ z. cases (λ e y. absurd (omega arith)) (λ m e y. out-is .0 y),
-      λ q. cases (λ e y. both-ways y (out-is .1 q)) (λ m e y. omega arith),
+      λ z. cases (λ e y. absurd (omega arith)) (λ m e y. state-out d fits k h .0 y),
+      λ q. cases (λ e y. both-ways y (state-out d fits k h .1 q)) (λ m e y. omega arith),
     )
 
     lost-forced : Lost d (stateOf d k) → ForcedFrom d (stateOf d k) (stepsOf k) (inputOf k)
-    lost-forced q = cases (λ e y. both-ways y (out-is .1 q)) (λ m e y. rw e (forced-is m e))
+    lost-forced q = cases (λ e y. both-ways y (state-out d fits k h .1 q)) (λ m e y. rw e (forced-is m e y))
 
     -- ---- a state that is kept
 
@@ -135,13 +122,13 @@ module _ (d : Decoded) (fits : stateCount d ≤ maxStates) where
     holds-out q =
         survives-for-ever (List ℕ) (inputsOf d) (outputsOf d) (advance d) (unbroken d) (Reached d)
         (reachable-closed (List ℕ) (inputsOf d) (outputsOf d) (advance d) (unbroken d) (firstTuple d)) (stateCount d) (settled-quiet d fits)
-        (stateOf d k) (record { inside = state-reached d k h; kept = sym (in-kept d fits k h) ∙ in-is .1 q })
+        (stateOf d k) (record { inside = state-reached d k h; kept = sym (in-kept d fits k h) ∙ state-in d fits k h .1 q })
 
     -- the input is a byte
     input-byte : inputsOf d ≤ maxIns → inputOf k < 2 ^ 8
     input-byte few =
         cases (λ e y. omega (arith, forcing-kept (cellsOf d) (droppedOf d) (inputsOf d) (outputsOf d) k y))
-        (λ m e y. omega (arith, forced-is m e .input))
+        (λ m e y. omega (arith, forced-is m e y .input))
 
   -- the answer says what it should
   pub shows : SheetOk d → Shows d (stateCount d) (forcedOf d)
@@ -160,7 +147,7 @@ module _ (d : Decoded) (fits : stateCount d ≤ maxStates) where
         two-bytes = λ k h. omega (arith, most k h);
         one-byte = λ k h. input-byte k h (inputs-most d (ok .head));
         kept-is = kept-zero;
-        kept-input = λ k h q. forcing-kept (cellsOf d) (droppedOf d) (inputsOf d) (outputsOf d) k (in-is k h .1 q);
+        kept-input = λ k h q. forcing-kept (cellsOf d) (droppedOf d) (inputsOf d) (outputsOf d) k (state-in d fits k h .1 q);
         holds-out = holds-out;
         lost-is = lost-some;
         forced = lost-forced;

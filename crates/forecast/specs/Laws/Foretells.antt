@@ -21,12 +21,12 @@ use Rattle.sheet.specs.Meaning.Decoded.{Decoded, SheetOk, inputLines}
 use Rattle.product.specs.Meaning.Step.{inputsOf, outputsOf, advance, reward, firstTuple}
 use Rattle.product.specs.Meaning.States.{Reached}
 use Rattle.product.specs.Model.ProductNumbering.{productStates, stateCount, stateOf, numberOf}
-use Rattle.product.specs.Laws.ProductNumbering.{state-number, state-reached}
+use Rattle.product.specs.Laws.ProductNumbering.{state-reached}
 use Rattle.product.specs.Laws.Ordered.{product-states, product-states-once}
 use Rattle.rounds.specs.Model.TableRounds.{isIn}
 use Rattle.solve.specs.Meaning.Allowed.{Kept, Lost}
 use Rattle.solve.specs.Model.Steps.{droppedOf}
-use Rattle.solve.specs.Laws.Entries.{in-iff, out-iff}
+use Rattle.solve.specs.Laws.Entries.{in-iff, out-iff, state-in, state-out}
 use Rattle.plan.specs.Model.Playing.{mayAt, bestAt}
 use Rattle.plan.specs.Laws.Solved.{pow-pow}
 use Rattle.averages.specs.Meaning.Averages.{averageOf}
@@ -107,17 +107,8 @@ module _ (d : Decoded) (ok : SheetOk d) where
             getD-tab (stateCount d) (λ j. leastAt d (d .horizon) (stateOf d j)) k 0 low,
           )
 
-      number : numberOf d (stateOf d k) ≡ k
-      number = state-number d fits k low
-
-      kept-is : (isIn (droppedOf d) k ≡ true) ↔ Kept d (stateOf d k)
-      kept-is = rw number at (in-iff d fits (stateOf d k) (state-reached d k low))
-
-      lost-is : (isIn (droppedOf d) k ≡ false) ↔ Lost d (stateOf d k)
-      lost-is = rw number at (out-iff d fits (stateOf d k) (state-reached d k low))
-
       lost-said : (averagesIn (saysOf (forecastCard d) k) ≡ none) ↔ Lost d (stateOf d k)
-      lost-said = (λ e. lost-is .0 (absent (isIn (droppedOf d) k) _ (sym said ∙ e)), λ l. said ∙ rw (lost-is .1 l))
+      lost-said = (λ e. state-out d fits k low .0 (absent (isIn (droppedOf d) k) _ (sym said ∙ e)), λ l. said ∙ rw (state-out d fits k low .1 l))
         where
           absent : (b : Bool) (a : Averages) → cond b (some a) none ≡ none → b ≡ false
           absent true a e = absurd (let z : _≡_ {A = ℕ} 0 1 = cc in omega arith)
@@ -127,7 +118,7 @@ module _ (d : Decoded) (ok : SheetOk d) where
           → (a : Averages) × (averagesIn (saysOf (forecastCard d) k) ≡ some a)
           × WorthOf d (d .horizon) (stateOf d k) (bestAt d (d .horizon) (stateOf d k)) (leastAt d (d .horizon) (stateOf d k)) a
       worth-said kept =
-          (averages k, said ∙ rw (kept-is .1 kept), worth-of (stateOf d k) (record { reached = state-reached d k low; kept = kept }))
+          (averages k, said ∙ rw (state-in d fits k low .1 kept), worth-of (stateOf d k) (record { reached = state-reached d k low; kept = kept }))
 
     pub foretells : Foretells d (forecastCard d)
     unfolding forecastCard stateCount stateOf

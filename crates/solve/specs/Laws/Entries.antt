@@ -19,7 +19,7 @@ use Rattle.product.specs.Meaning.Step.{inputsOf, outputsOf, advance, unbroken, 
 use Rattle.product.specs.Model.States.{lettersOf}
 use Rattle.product.specs.Meaning.States.{Reached}
 use Rattle.product.specs.Model.ProductNumbering.{stateCount, stateOf, numberOf, cellOf}
-use Rattle.product.specs.Laws.ProductNumbering.{reached-number, number-state, step-number, quiet-round}
+use Rattle.product.specs.Laws.ProductNumbering.{reached-number, number-state, state-number, state-reached, step-number, quiet-round}
 use Rattle.game.specs.Model.Rounds.{keptAfter, droppedBy, may, Quiet}
 use Rattle.game.specs.Laws.Rounds.{quiet-on, kept-dropped, kept-iff, lost-iff, allowed-iff}
 use Rattle.game.specs.Laws.Naming.{Names, dropped-named}
@@ -167,6 +167,13 @@ module _ (d : Decoded) where
         let x = lost-iff (List ℕ) (inputsOf d) (outputsOf d) (advance d) (unbroken d) (Reached d)
         (reachable-closed (List ℕ) (inputsOf d) (outputsOf d) (advance d) (unbroken d) (firstTuple d)) (stateCount d) settled-quiet t r in
         (λ e. x .0 (sym (number-kept t r) ∙ e), λ k. number-kept t r ∙ x .1 k)
+
+    -- the same of the tuple of a number
+    pub state-in : (k : ℕ) → k < stateCount d → (isIn (droppedOf d) k ≡ true) ↔ Kept d (stateOf d k)
+    state-in k h = rw (state-number d fits k h) at (in-iff (stateOf d k) (state-reached d k h))
+
+    pub state-out : (k : ℕ) → k < stateCount d → (isIn (droppedOf d) k ≡ false) ↔ Lost d (stateOf d k)
+    state-out k h = rw (state-number d fits k h) at (out-iff (stateOf d k) (state-reached d k h))
 
     -- where the states that are in are those kept after r rounds, a step of the table leads in when its output may be given after as many
     pub leads-after : (l : List ℕ) (r : ℕ)

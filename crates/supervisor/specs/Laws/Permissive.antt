@@ -28,7 +28,7 @@ use Rattle.supervisor_table.specs.Model.MaskRows.{keptFlag, maskRowLength, mask
 use Rattle.solve.specs.Meaning.Allowed.{Kept, Lost, Allowed, AllowedAfter, MaximallyPermissive}
 use Rattle.solve.specs.Model.Steps.{cellsOf, droppedOf}
 use Rattle.supervisor.specs.Model.SupervisorOfSheet.{supervisorTable}
-use Rattle.solve.specs.Laws.Entries.{settled-quiet, in-iff, out-iff, leads-iff}
+use Rattle.solve.specs.Laws.Entries.{settled-quiet, in-iff, state-in, state-out, leads-iff}
 use Rattle.supervisor.specs.Laws.Bytes.{table-length, table-format}
 use Rattle.supervisor.specs.Promises.SupervisorMaker.{Means}
 
@@ -102,13 +102,13 @@ module _ (d : Decoded) (fits : stateCount d ≤ maxStates) where
     unfolding keptFlag
     flag-kept =
         let x = flag-one (isIn (droppedOf d) k) in
-        let y = rw number at (in-iff d fits (stateOf d k) (state-reached d k h)) in (λ e. y .0 (x .0 e), λ q. x .1 (y .1 q))
+        let y = state-in d fits k h in (λ e. y .0 (x .0 e), λ q. x .1 (y .1 q))
 
     flag-lost : (keptFlag (droppedOf d) k ≡ 0) ↔ Lost d (stateOf d k)
     unfolding keptFlag
     flag-lost =
         let x = flag-none (isIn (droppedOf d) k) in
-        let y = rw number at (out-iff d fits (stateOf d k) (state-reached d k h)) in (λ e. y .0 (x .0 e), λ q. x .1 (y .1 q))
+        let y = state-out d fits k h in (λ e. y .0 (x .0 e), λ q. x .1 (y .1 q))
 
     state-mask : Kept d (stateOf d k) → (i o : ℕ) → i < inputsOf d
         → (bitAt (maskOf (cellsOf d) (droppedOf d) (inputsOf d) (outputsOf d) k i) o ≡ 1) ↔ Allowed d (stateOf d k) i o
@@ -135,7 +135,7 @@ module _ (d : Decoded) (fits : stateCount d ≤ maxStates) where
         mask-is = λ k h kept i o hi ho. state-mask k h kept i o hi;
         mask-none = λ k h lost i hi.
             mask-lost (cellsOf d) (droppedOf d) (inputsOf d) (outputsOf d) k i
-            (rw (number k h) at (out-iff d fits (stateOf d k) (state-reached d k h) .1 lost));
+            (state-out d fits k h .1 lost);
         after-history = λ h p.
             let l = lands start h p in
             let t : List ℕ = reached (List ℕ) (advance d) (firstTuple d) h in (
