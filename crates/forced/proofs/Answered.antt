@@ -25,11 +25,10 @@ use Rattle.forced_rows.specs.Laws.ForcedRows.{forced-agree}
 use Rattle.solve.specs.Model.Steps.{droppedOf}
 use Rattle.solve.specs.Model.Making.{sheetOf, roomNumber}
 use Rattle.solve.specs.Model.SolvingSheet.{solvingNumber, SolvedSheet}
-use Rattle.solve.specs.Laws.Entries.{sheet-steps}
+use Rattle.solve.specs.Laws.Entries.{length-dropped, sheet-steps}
 use Rattle.solve.specs.Laws.Solving.{cells-agree, numbering-fits}
 use Rattle.solve.specs.Laws.OrderedNumber.{refused-off, ordered-refused, solved-start, solved-past}
 use Rattle.forced.specs.Model.ForcedOfSheet.{forcedOf, forcedSize, heldNumber, Plays}
-use Rattle.forced.specs.Laws.Shown.{entries}
 use Rattle.forced.specs.declared.answer.Ground.the-variants as ground
 use Rattle.forced.specs.declared.answer.Forced.the-variants.{Play, Refused}
 
@@ -73,7 +72,7 @@ module _ {ok : Bool} {s : List ℕ} (before : List ℕ) where
           (cat-ext (stateCount d) _ _ (λ k u.
           sym (forced-agree (sheet-steps d (numbering-fits numbering)) cells (cells-agree numbering) (droppedOf d) dropped
           (λ q v. sym (solved .solution .rounds q (omega (arith, numbering .counted))))
-          (omega (arith, entries d)) (omega (arith, numbering .counted)) k u)))
+          (omega (arith, length-dropped d)) (omega (arith, numbering .counted)) k u)))
 
       module _ (lost : start ≡ false) {size : ℕ} (sized : size ≡ forcedLength n) where
         -- the result is too short

@@ -14,9 +14,9 @@ use Rattle.game.specs.Laws.Forcing.{forced-once}
 use Rattle.forced_rows.specs.Meaning.ForcedBytes.{forcedBytes, forcedAnswer}
 use Rattle.solve.specs.Meaning.Allowed.{Kept, Lost}
 use Rattle.forced.specs.Meaning.Play.{ForcedFrom}
-use Rattle.forced.specs.Promises.ForcedMaker.{Shows}
+use Rattle.forced.specs.Promises.ForcedMaker.{ShowsPlay}
 
-module _ (d : Decoded) {n m : ℕ} {a b : List ℕ} (x : Shows d n a) (y : Shows d m b) where
+module _ (d : Decoded) {n m : ℕ} {a b : List ℕ} (x : ShowsPlay d n a) (y : ShowsPlay d m b) where
   same-tuples : x .tuples ≡ y .tuples
   same-tuples = product-states-once d (x .tuples) (y .tuples) (x .numbered) (y .numbered)
 

@@ -29,7 +29,7 @@ use Rattle.forced.specs.Meaning.Answer.{playNumber, playLength, playStat
 use Rattle.forced.specs.Meaning.Play.{Realizable}
 use Rattle.forced.specs.Model.ForcedOfSheet.{forcedOf, forcedSize, heldNumber, Plays}
 use Rattle.forced.specs.Laws.Shown.{shows}
-use Rattle.forced.specs.Promises.ForcedMaker.{forcedWork, Shows, Played, Unplayed, MakesForced}
+use Rattle.forced.specs.Promises.ForcedMaker.{forcedWork, ShowsPlay, Played, Unplayed, MakesForced}
 use Rattle.forced.specs.declared.answer.Forced.{Forced}
 use Rattle.forced.proofs.Only.{only-answer}
 
@@ -48,7 +48,7 @@ module _
     (order : InOrder 23 Realizable Unrealizable (λ d. 3 * stateCount d) (longEnough forcedWork lent) s (length before) (playNumber r))
   where
     -- what the answer of a sheet says
-    says : (d : Decoded) → IsSheet s d → (TooMany d → ⊥) → Shows d (stateCount d) (forcedOf d)
+    says : (d : Decoded) → IsSheet s d → (TooMany d → ⊥) → ShowsPlay d (stateCount d) (forcedOf d)
     says d x few = shows d (few-fit d few) (x .in-bounds)
 
     -- the answer was written

@@ -8,13 +8,12 @@ use mathlib.Core.List.{List}
 use Prim.Native.Nat.{ℕ, zero, suc, _^_, _≤_, _<_}
 use native.Mathlib.Nat.{mul-comm}
 use native.Mathlib.Omega.{arith}
-use lib.ListN.{length, getD, length-replicate}
+use lib.ListN.{getD}
 use borrow.Author.Tests.{eq-eqb, ne-eqb, not-true, not-false}
 use Rattle.records.specs.Meaning.Bounded.{any}
 use Rattle.records.specs.Laws.Bounded.{any-cong}
 use Rattle.records.specs.Meaning.Limits.{maxStates, maxIns}
 use Rattle.records.specs.Laws.Tests.{both-ways}
-use Rattle.records.specs.Meaning.Numbers.{zeros}
 use Rattle.sheet.specs.Meaning.Decoded.{Decoded, SheetOk}
 use Rattle.product.specs.Meaning.Step.{inputsOf, outputsOf, advance, unbroken, firstTuple}
 use Rattle.product.specs.Meaning.States.{Reached}
@@ -26,24 +25,16 @@ use Rattle.game.specs.Model.Rounds.{keptAfter, droppedBy, may}
 use Rattle.game.specs.Laws.Rounds.{dropped-le, survives-for-ever}
 use Rattle.game.specs.Laws.Forcing.{kept-by, some-forces, forced}
 use Rattle.game.specs.Laws.Reachable.{reachable-closed}
-use Rattle.rounds.specs.Model.TableRounds.{isIn, answered, settled}
-use Rattle.rounds.specs.Laws.TableRounds.{length-rounds}
+use Rattle.rounds.specs.Model.TableRounds.{isIn, answered}
 use Rattle.forced_rows.specs.Meaning.ForcedBytes.{forcedLength}
 use Rattle.forced_rows.specs.Model.ForcedRows.{beforeRound, forcesAt, forcingInput}
 use Rattle.forced_rows.specs.Laws.ForcedRows.{before-in, forcing-lowest, forcing-kept, rows-answer, length-forced-rows}
 use Rattle.solve.specs.Meaning.Allowed.{Kept, Lost}
 use Rattle.solve.specs.Model.Steps.{cellsOf, droppedOf}
-use Rattle.solve.specs.Laws.Entries.{dropped-is, in-kept, settled-quiet, state-in, state-out, leads-after}
+use Rattle.solve.specs.Laws.Entries.{length-dropped, dropped-is, in-kept, settled-quiet, state-in, state-out, leads-after}
 use Rattle.forced.specs.Meaning.Play.{ForcedFrom, HoldsOut}
 use Rattle.forced.specs.Model.ForcedOfSheet.{forcedOf}
-use Rattle.forced.specs.Promises.ForcedMaker.{Shows}
-
--- an entry for each state
-pub entries : (d : Decoded) → length (droppedOf d) ≡ stateCount d
-unfolding droppedOf settled
-entries d =
-    length-rounds (cellsOf d) (stateCount d) (inputsOf d) (outputsOf d) (zeros (stateCount d)) (stateCount d)
-    ∙ length-replicate (stateCount d) 0
+use Rattle.forced.specs.Promises.ForcedMaker.{ShowsPlay}
 
 module _ (d : Decoded) (fits : stateCount d ≤ maxStates) where
   -- the number of steps and the input of state k
@@ -58,7 +49,7 @@ module _ (d : Decoded) (fits : stateCount d ≤ maxStates) where
       → isIn (beforeRound (suc m) (droppedOf d)) q
       ≡ keptAfter (List ℕ) (inputsOf d) (outputsOf d) (advance d) (unbroken d) m (stateOf d q)
   in-before m h q u =
-      before-in (suc m) (droppedOf d) q (omega (arith, entries d))
+      before-in (suc m) (droppedOf d) q (omega (arith, length-dropped d))
       ∙ rw (dropped-is d fits q u)
       (sym (kept-by (List ℕ) (inputsOf d) (outputsOf d) (advance d) (unbroken d) (stateCount d) m (stateOf d q) h))
 
@@ -131,7 +122,7 @@ module _ (d : Decoded) (fits : stateCount d ≤ maxStates) where
         (λ m e y. omega (arith, forced-is m e y .input))
 
   -- the answer says what it should
-  pub shows : SheetOk d → Shows d (stateCount d) (forcedOf d)
+  pub shows : SheetOk d → ShowsPlay d (stateCount d) (forcedOf d)
   unfolding stateCount stateOf forcedOf
   shows ok =
       record {

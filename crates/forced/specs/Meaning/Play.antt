@@ -12,7 +12,7 @@ use Rattle.solve.specs.Meaning.Allowed.{Kept}
 
 -- n is the least number of steps in which the inputs force a hard monitor or limit to break, i the lowest input that does so in n
 abbrev pub ForcedFrom : Decoded → List ℕ → ℕ → ℕ → Type 0
-ForcedFrom d t n i = forcing.Forced (List ℕ) (inputsOf d) (outputsOf d) (advance d) (unbroken d) t n i
+ForcedFrom d t n i = forcing.ForcedBy (List ℕ) (inputsOf d) (outputsOf d) (advance d) (unbroken d) t n i
 
 -- one way of answering, a function of the inputs so far, breaks nothing along every word of every length
 abbrev pub HoldsOut : Decoded → List ℕ → Type 0

@@ -32,7 +32,7 @@ forcedWork = forcedWorkFor maxStates
 -- ---- what the bytes say
 
 -- three bytes for each of n product states, in the order of their numbers
-pub record Shows (d : Decoded) (n : ℕ) (bytes : List ℕ) : Type 0 where
+pub record ShowsPlay (d : Decoded) (n : ℕ) (bytes : List ℕ) : Type 0 where
   -- the product states, as first met
   pub tuples : List (List ℕ)
   pub count : length tuples ≡ n
@@ -63,7 +63,7 @@ pub record Played (d : Decoded) (before : List ℕ) (r : Forced) (after : List �
   pub states : playStates r ≡ stateCount d
   pub bytes : after ≡ forcedOf d ++ drop (3 * stateCount d) before
   -- of the bytes that were written
-  pub shows : Shows d (playStates r) (take (playLength r) after)
+  pub shows : ShowsPlay d (playStates r) (take (playLength r) after)
 
 -- a refusal: every figure is 0, and the result is as it was
 pub record Unplayed (before : List ℕ) (r : Forced) (after : List ℕ) : Type 0 where
@@ -79,9 +79,9 @@ pub record MakesForced (s before lent : List ℕ) (r : Forced) (after : List ℕ
   pub played : playNumber r ≡ 0 → (d : Decoded) → IsSheet s d → Played d before r after
   pub unplayed : (playNumber r ≡ 0 → ⊥) → Unplayed before r after
   -- of the answer of every sheet in bounds whose states are not too many, also where it is refused
-  pub shows : (d : Decoded) → IsSheet s d → (TooMany d → ⊥) → Shows d (stateCount d) (forcedOf d)
+  pub shows : (d : Decoded) → IsSheet s d → (TooMany d → ⊥) → ShowsPlay d (stateCount d) (forcedOf d)
   -- which no other bytes say
-  pub only : (d : Decoded) → IsSheet s d → (TooMany d → ⊥) → (n : ℕ) (bytes : List ℕ) → Shows d n bytes → bytes ≡ forcedOf d
+  pub only : (d : Decoded) → IsSheet s d → (TooMany d → ⊥) → (n : ℕ) (bytes : List ℕ) → ShowsPlay d n bytes → bytes ≡ forcedOf d
   -- the bytes of work memory that the constants ask for
   pub work-bytes : askedBytes forcedWork ≤ workMost
   -- and what they would ask for if there were twice as many states

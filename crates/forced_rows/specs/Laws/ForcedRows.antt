@@ -3,15 +3,14 @@
 use mathlib.Core.Path.{_≡_, refl, sym, ap, ap₂, _∙_}
 use mathlib.Core.Bool.{Bool, true, false, cond, not, _||_}
 use mathlib.Core.List.{List}
-use Prim.Native.Nat.{ℕ, zero, suc, _*_, _≤_, _<_, suc-le-suc}
-use native.Mathlib.Nat.{le-of-suc-le-suc}
+use Prim.Native.Nat.{ℕ, _*_, _≤_, _<_}
 use native.Mathlib.Omega.{arith}
 use lib.Dec.{eqb, ltb, leb}
 use lib.ListN.{length, getD}
 use borrow.Author.Tests.{ltb-true, ltb-false, le-leb, lt-leb}
 use Rattle.records.specs.Meaning.Lists.{cat}
-use Rattle.records.specs.Model.Bounded.{least}
-use Rattle.records.specs.Laws.Bounded.{any-cong}
+use Rattle.records.specs.Model.Bounded.{least, Lowest}
+use Rattle.records.specs.Laws.Bounded.{any-cong, least-lowest, least-cong}
 use Rattle.records.specs.Laws.Lists.{getD-put-front, length-cat}
 use Rattle.records.specs.Laws.Tests.{by-test, or-right}
 use Rattle.rounds.specs.Model.TableRounds.{Steps, isIn, answered}
@@ -60,37 +59,6 @@ before-in r dropped k h =
     none false = refl
 
 -- ---- the lowest input
-
--- m is the lowest number below n that passes the test
-pub record Lowest (p : ℕ → Bool) (n m : ℕ) : Type 0 where
-  pub low : m < n
-  pub hit : p m ≡ true
-  pub none : (j : ℕ) → j < m → p j ≡ false
-
-first-hit : (n : ℕ) (p : ℕ → Bool) → p 0 ≡ true → Lowest p (suc n) 0
-first-hit n p e = record { low = omega arith; hit = e; none = λ j l. absurd (omega arith) }
-
-later-hit : (n : ℕ) (p : ℕ → Bool) {m : ℕ} → p 0 ≡ false → Lowest (λ k. p (suc k)) n m → Lowest p (suc n) (suc m)
-later-hit n p {m} e rest = record { low = suc-le-suc (rest .low); hit = rest .hit; none = none }
-  where
-    none : (j : ℕ) → j < suc m → p j ≡ false
-    none zero l = e
-    none (suc j) l = rest .none j (le-of-suc-le-suc l)
-
--- `least` is, if any passes
-least-lowest : (n : ℕ) (p : ℕ → Bool) (i : ℕ) → i < n → p i ≡ true → Lowest p n (least n p)
-unfolding least
-least-lowest zero p i h e = absurd (omega arith)
-least-lowest (suc n) p zero h e = rw e (first-hit n p e)
-least-lowest (suc n) p (suc i) h e =
-    by-test (p 0) (λ y. rw y (first-hit n p y))
-    (λ y. rw y (later-hit n p y (least-lowest n (λ k. p (suc k)) i (le-of-suc-le-suc h) e)))
-
-least-cong : (n : ℕ) (p q : ℕ → Bool) → ((i : ℕ) → i < n → p i ≡ q i) → least n p ≡ least n q
-unfolding least
-least-cong zero p q e = refl
-least-cong (suc n) p q e =
-    rw (e 0 (omega arith), least-cong n (λ k. p (suc k)) (λ k. q (suc k)) (λ k h. e (suc k) (suc-le-suc h)))
 
 module _ (cells dropped : List ℕ) (ins outs k : ℕ) where
   -- a kept state gets 0

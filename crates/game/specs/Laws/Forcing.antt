@@ -30,8 +30,8 @@ module _ (S : Type 0) (I O : ℕ) (step : S → ℕ → ℕ → S) (ok : S → �
   abbrev Beats : ℕ → S → (List ℕ → ℕ) → Type 0
   Beats = meaningForcing.Beats S I O step ok
 
-  abbrev Forced : S → ℕ → ℕ → Type 0
-  Forced = meaningForcing.Forced S I O step ok
+  abbrev ForcedBy : S → ℕ → ℕ → Type 0
+  ForcedBy = meaningForcing.ForcedBy S I O step ok
 
   -- ---- ways of giving inputs and moves
 
@@ -155,7 +155,7 @@ module _ (S : Type 0) (I O : ℕ) (step : S → ℕ → ℕ → S) (ok : S → �
         let x = dropped S I O step ok r m s out .2 in (x .0, x .1, forces-none (x .0) (x .2))
 
     -- and the lowest of them with the number of the round is how a break is forced
-    pub forced : (i : ℕ) → i < I → any O (may m s i) ≡ false → ((j : ℕ) → j < i → any O (may m s j) ≡ true) → Forced s (suc m) i
+    pub forced : (i : ℕ) → i < I → any O (may m s i) ≡ false → ((j : ℕ) → j < i → any O (may m s j) ≡ true) → ForcedBy s (suc m) i
     forced i h e lower =
         record {
           forces = dropped S I O step ok r m s out .2;
@@ -182,7 +182,7 @@ module _ (S : Type 0) (I O : ℕ) (step : S → ℕ → ℕ → S) (ok : S → �
 
   -- ---- no other number and no other input is
 
-  pub forced-once : {s : S} {n m i j : ℕ} → Forced s n i → Forced s m j → (n ≡ m) × (i ≡ j)
+  pub forced-once : {s : S} {n m i j : ℕ} → ForcedBy s n i → ForcedBy s m j → (n ≡ m) × (i ≡ j)
   forced-once {s} {n} {m} {i} {j} x y =
       (same, order i j (λ l. y .lowest i l (rw same at (x .begins))) (λ l. x .lowest j l (rw same (y .begins))))
     where

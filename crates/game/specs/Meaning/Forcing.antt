@@ -29,7 +29,7 @@ module _ (S : Type 0) (I O : ℕ) (step : S → ℕ → ℕ → S) (ok : S → �
     pub wins : (w : List ℕ) → Word O n w → breaks g s w ≡ true
 
   -- n is the least number of steps in which a break is forced from s, and i the lowest input that does so in n steps
-  pub record Forced (s : S) (n i : ℕ) : Type 0 where
+  pub record ForcedBy (s : S) (n i : ℕ) : Type 0 where
     -- from move to move
     pub forces : Forces n s
     pub soonest : (m : ℕ) → m < n → Forces m s → ⊥

@@ -1,5 +1,5 @@
--- What the makers, the forecast and the listing promise to programs in other languages: an answer as the call below promises it, reported by
--- number and figures. The board's calls promise what crate `board_bytes` does.
+-- What the makers and the listing promise to programs in other languages: an answer as the call below promises it, reported by number and
+-- figures. The board's calls promise what crate `board_bytes` does.
 -- Assumes nothing.
 use mathlib.Core.Path.{_≡_}
 use mathlib.Core.List.{List, [], _∷_}

@@ -7,9 +7,9 @@ use native.Mathlib.Nat.{suc-mul, not-suc-le-zero, le-of-suc-le-suc}
 use native.Mathlib.Numerals.{add-one}
 use native.Mathlib.Decide.{decLt}
 use native.Mathlib.Omega.{arith}
-use Rattle.records.specs.Laws.Tests.{both-ways, and-left, and-right, and-both, and-not, or-cases, or-left, or-right}
+use Rattle.records.specs.Laws.Tests.{both-ways, by-test, and-left, and-right, and-both, and-not, or-cases, or-left, or-right}
 use Rattle.records.specs.Meaning.Bounded.{all, any, count, sum}
-use Rattle.records.specs.Model.Bounded.{least, top}
+use Rattle.records.specs.Model.Bounded.{least, Lowest, top}
 
 -- a number below n + 1 is below n, or is n
 pub cases-suc {ℓ} : {X : Type ℓ} (i n : ℕ) → i < suc n → (i < n → X) → (i ≡ n → X) → X
@@ -100,6 +100,31 @@ pub least-none : (n : ℕ) (p : ℕ → Bool) → ((j : ℕ) → j < n → p j �
 unfolding least
 least-none zero p h = refl
 least-none (suc n) p h = rw (h 0 (omega arith)) (ap suc (least-none n (λ j. p (suc j)) (λ j m. h (suc j) (suc-le-suc m))))
+
+first-hit : (n : ℕ) (p : ℕ → Bool) → p 0 ≡ true → Lowest p (suc n) 0
+first-hit n p e = record { low = omega arith; hit = e; none = λ j l. absurd (omega arith) }
+
+later-hit : (n : ℕ) (p : ℕ → Bool) {m : ℕ} → p 0 ≡ false → Lowest (λ k. p (suc k)) n m → Lowest p (suc n) (suc m)
+later-hit n p {m} e rest = record { low = suc-le-suc (rest .low); hit = rest .hit; none = none }
+  where
+    none : (j : ℕ) → j < suc m → p j ≡ false
+    none zero l = e
+    none (suc j) l = rest .none j (le-of-suc-le-suc l)
+
+-- it is the lowest of those that pass, if any does
+pub least-lowest : (n : ℕ) (p : ℕ → Bool) (i : ℕ) → i < n → p i ≡ true → Lowest p n (least n p)
+unfolding least
+least-lowest zero p i h e = absurd (omega arith)
+least-lowest (suc n) p zero h e = rw e (first-hit n p e)
+least-lowest (suc n) p (suc i) h e =
+    by-test (p 0) (λ y. rw y (first-hit n p y))
+    (λ y. rw y (later-hit n p y (least-lowest n (λ k. p (suc k)) i (le-of-suc-le-suc h) e)))
+
+pub least-cong : (n : ℕ) (p q : ℕ → Bool) → ((i : ℕ) → i < n → p i ≡ q i) → least n p ≡ least n q
+unfolding least
+least-cong zero p q e = refl
+least-cong (suc n) p q e =
+    rw (e 0 (omega arith), least-cong n (λ k. p (suc k)) (λ k. q (suc k)) (λ k h. e (suc k) (suc-le-suc h)))
 
 pub count-none : (p : ℕ → Bool) → count 0 p ≡ 0
 unfolding count

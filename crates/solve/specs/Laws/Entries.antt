@@ -27,6 +27,7 @@ use Rattle.game.specs.Laws.Reachable.{letter-low, letter-input, letter-output, 
 use Rattle.records.specs.Model.Cells.{brokenCell, isBroken}
 use Rattle.records.specs.Laws.Cells.{mark-broken, number-unbroken}
 use Rattle.rounds.specs.Model.TableRounds.{Steps, cellAt, isIn, leadsIn, rounds, settled}
+use Rattle.rounds.specs.Laws.TableRounds.{length-rounds}
 use Rattle.solve.specs.Meaning.Allowed.{Kept, Lost, Allowed}
 use Rattle.solve.specs.Model.Steps.{cellsOf, droppedOf}
 use Rattle.solve.specs.Laws.NumberedGame.{goes, passes, leads-game, rounds-game}
@@ -47,6 +48,13 @@ module _ (d : Decoded) where
       let low : i + inputsOf d * o < lettersOf d = letter-low (inputsOf d) (outputsOf d) i o hi ho in
       getD-tab (stateCount d * lettersOf d) _ (k * lettersOf d + (i + inputsOf d * o)) 0 (digits-lt hk low)
       ∙ rw (digits-div k low, digits-mod k low, letter-input (inputsOf d) i o hi, letter-output (inputsOf d) i o hi)
+
+  -- the rounds have an entry for each state
+  pub length-dropped : length (droppedOf d) ≡ stateCount d
+  unfolding droppedOf settled
+  length-dropped =
+      length-rounds (cellsOf d) (stateCount d) (inputsOf d) (outputsOf d) (zeros (stateCount d)) (stateCount d)
+      ∙ length-replicate (stateCount d) 0
 
   module _ (fits : stateCount d ≤ maxStates) where
     -- a cell that is not broken holds a state's number
