@@ -30,7 +30,7 @@ ground() {
     6) echo "the horizon is too long" ;;
     7) echo "more than 256 product states" ;;
     8) echo "unrealizable: the start is not kept" ;;
-    9) echo "the result memory is shorter than the table" ;;
+    9) echo "the result memory is shorter than the table or play" ;;
     10) echo "the work memory is too short" ;;
     *) echo "a number without a name" ;;
     esac

@@ -1,10 +1,9 @@
 -- The whole promise, from the answer by the model.
 -- Assumes nothing.
-use mathlib.Core.Path.{_≡_, refl, sym, ap, fun-ext, _∙_, subst}
+use mathlib.Core.Path.{_≡_, refl, sym, ap, _∙_, subst}
 use mathlib.Core.Bool.{false}
 use mathlib.Core.List.{List, _++_}
 use Prim.Native.Nat.{ℕ, _*_, _≤_}
-use native.Mathlib.Nat.{mul-comm}
 use native.Mathlib.Omega.{arith}
 use lib.Dec.{eqb}
 use lib.ListN.{length, take, drop}
@@ -34,13 +33,9 @@ use Rattle.forced.specs.declared.answer.Forced.{Forced}
 use Rattle.forced.proofs.Only.{only-answer}
 
 -- three bytes a state
-size-is : (d : Decoded) → forcedSize d ≡ 3 * stateCount d
-unfolding forcedSize forcedLength
-size-is d = mul-comm (stateCount d) 3
-
 length-is : (d : Decoded) → length (forcedOf d) ≡ 3 * stateCount d
 unfolding forcedOf forcedLength
-length-is d = length-forced-rows (cellsOf d) (droppedOf d) _ _ (stateCount d) ∙ mul-comm (stateCount d) 3
+length-is d = length-forced-rows (cellsOf d) (droppedOf d) _ _ (stateCount d)
 
 module _
     {s before : List ℕ} {r : Forced} {after : List ℕ} (lent : List ℕ) (plays : Plays (longEnough forcedWork lent) s before r after)
@@ -53,12 +48,13 @@ module _
 
     -- the answer was written
     wrote : playNumber r ≡ 0 → (d : Decoded) → IsSheet s d → Played d before r after
+    unfolding forcedSize forcedLength
     wrote e d x =
         let found = order .exactly .0 e in
         let one : found .0 ≡ d = sym (same (found .0) (found .1)) ∙ same d x in
         let few : TooMany d → ⊥ = subst (λ (y : Decoded). TooMany y → ⊥) one (found .2) in
         let room : 3 * stateCount d ≤ length before = subst (λ (y : Decoded). 3 * stateCount y ≤ length before) one (found .5) in
-        let size : playLength r ≡ 3 * stateCount d = plays .size ∙ rw e (size-is (sheetOf s) ∙ ap (λ (y : Decoded). 3 * stateCount y) (same d x)) in
+        let size : playLength r ≡ 3 * stateCount d = plays .size ∙ rw e (ap forcedSize (same d x)) in
         let states : playStates r ≡ stateCount d = plays .states ∙ rw e (ap stateCount (same d x)) in
         let bytes : after ≡ forcedOf d ++ drop (3 * stateCount d) before =
         plays .bytes
@@ -110,9 +106,9 @@ held-stops =
 
 pub forced-promise : {s before : List ℕ} {r : Forced} {after : List ℕ} (lent : List ℕ) → Bytes s
     → Plays (longEnough forcedWork lent) s before r after → MakesForced s before lent r after
+unfolding forcedSize forcedLength
 forced-promise {s} {before} {r} lent bytes plays =
     forced-makes lent plays (only-is (only-sheet s))
-    (subst (λ (size : Decoded → ℕ). InOrder 23 Realizable Unrealizable size (longEnough forcedWork lent) s (length before) (playNumber r))
-    (fun-ext size-is) (orders-bytes held-stops forcedSize (longEnough forcedWork lent) s (length before) (playNumber r) (plays .number) bytes))
+    (orders-bytes held-stops forcedSize (longEnough forcedWork lent) s (length before) (playNumber r) (plays .number) bytes)
     (λ e. order-else held-stops forcedSize (longEnough forcedWork lent) s (length before) (playNumber r) (plays .number)
     (omega arith) (λ q. omega arith) (λ q. omega arith) (λ q. omega arith))

@@ -3,7 +3,7 @@ use sheet::layout::Refusal;
 ghost use mathlib.Core.Path.{_≡_};
 ghost use Rattle.forced.specs.Meaning.Answer.{playNumber, playLength, playStates, stopNumber};
 
-// The grounds on which it refuses: the sheet is realizable, or one that every maker has.
+// The grounds on which it refuses: the sheet is realizable, or one of the other calls' but that it is unrealizable.
 pub enum Ground {
     Realizable,
     Sheet(Refusal),

@@ -20,7 +20,7 @@ pub fn answer_length(count: usize) -> usize
     requires { ⌜ count ≤ maxStates ⌝ }
     ensures { λ r. ⌜ r ≡ forcedLength count ⌝ }
 {
-    count * 3
+    3 * count
 }
 
 // Whether a cell is an unbroken step to a state that was in before a round: kept, or dropped in that round or later.

@@ -1,4 +1,4 @@
-// The opening of every call that solves a sheet: 10, the sheet's own refusals and 7; and every maker's, with 8 after them.
+// The opening of every call that solves a sheet: 10, the sheet's own refusals and 7; and of those that ask for a realizable one: 8.
 use crate::solving::Solved;
 use crate::solving::solve;
 use sheet::layout::Refusal;

@@ -112,7 +112,7 @@ impl fmt::Display for Refusal {
             Refusal::LongHorizon => "the horizon is too long",
             Refusal::TooManyStates => "more than 256 product states",
             Refusal::Unrealizable => "unrealizable: the start is not kept",
-            Refusal::ShortResult => "the result memory is shorter than the table",
+            Refusal::ShortResult => "the result memory is shorter than the table or play",
             Refusal::ShortWork => "the work memory is too short",
             Refusal::BadTable => "not a table to load, or not the board's",
             Refusal::BadInput => "no such input",

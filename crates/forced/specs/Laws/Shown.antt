@@ -6,7 +6,6 @@ use mathlib.Core.Logic.{_↔_}
 use mathlib.Core.Bool.{true, false, not}
 use mathlib.Core.List.{List}
 use Prim.Native.Nat.{ℕ, zero, suc, _^_, _≤_, _<_}
-use native.Mathlib.Nat.{mul-comm}
 use native.Mathlib.Omega.{arith}
 use lib.ListN.{getD}
 use borrow.Author.Tests.{eq-eqb, ne-eqb, not-true, not-false}
@@ -132,8 +131,7 @@ module _ (d : Decoded) (fits : stateCount d ≤ maxStates) where
         steps = stepsOf;
         input = inputOf;
         bytes-are = rows-answer (cellsOf d) (droppedOf d) (inputsOf d) (outputsOf d) (stateCount d);
-        size = unfold forcedLength in
-            (length-forced-rows (cellsOf d) (droppedOf d) (inputsOf d) (outputsOf d) (stateCount d) ∙ mul-comm (stateCount d) 3);
+        size = unfold forcedLength in length-forced-rows (cellsOf d) (droppedOf d) (inputsOf d) (outputsOf d) (stateCount d);
         steps-most = most;
         two-bytes = λ k h. omega (arith, most k h);
         one-byte = λ k h. input-byte k h (inputs-most d (ok .head));

@@ -4,6 +4,7 @@ use mathlib.Core.Path.{_≡_, refl, sym, ap, ap₂, _∙_}
 use mathlib.Core.Bool.{Bool, true, false, cond, not, _||_}
 use mathlib.Core.List.{List}
 use Prim.Native.Nat.{ℕ, _*_, _≤_, _<_}
+use native.Mathlib.Nat.{mul-comm}
 use native.Mathlib.Omega.{arith}
 use lib.Dec.{eqb, ltb, leb}
 use lib.ListN.{length, getD}
@@ -34,7 +35,7 @@ module _ (cells dropped : List ℕ) (ins outs : ℕ) where
 
   pub length-forced-rows : (n : ℕ) → length (cat n (forcedRow cells dropped ins outs)) ≡ forcedLength n
   unfolding forcedLength
-  length-forced-rows n = length-cat 3 n (forcedRow cells dropped ins outs) (λ k h. length-forced-row k)
+  length-forced-rows n = length-cat 3 n (forcedRow cells dropped ins outs) (λ k h. length-forced-row k) ∙ mul-comm n 3
 
 -- ---- the states that were in before a round
 

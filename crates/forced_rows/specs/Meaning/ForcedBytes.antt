@@ -15,4 +15,4 @@ unfoldable pub forcedAnswer : ℕ → (ℕ → ℕ) → (ℕ → ℕ) → List �
 forcedAnswer count steps input = cat count (λ k. forcedBytes (steps k) (input k))
 
 unfoldable pub forcedLength : ℕ → ℕ
-forcedLength count = count * 3
+forcedLength count = 3 * count

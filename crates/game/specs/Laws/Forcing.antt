@@ -166,7 +166,7 @@ module _ (S : Type 0) (I O : ℕ) (step : S → ℕ → ℕ → S) (ok : S → �
           way = way .0;
           beats = way .1;
           first = way .2;
-          none-sooner = λ q l g b. soonest q l (moves q s g b);
+          none-sooner = λ q l g b. soonest q l (beats-forces q s .0 (g, b));
           none-lower = λ g b l. both-ways (lower (g []) l) (forces-none (g []) (beats-after m s (g []) .0 (g, b, refl) .1));
         }
       where

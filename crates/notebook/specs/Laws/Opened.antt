@@ -30,7 +30,7 @@ use Rattle.rounds.specs.Model.TableRounds.{cellAt, isIn, leadsIn, answered, sta
 use Rattle.solve.specs.Model.Steps.{cellsOf, droppedOf}
 use Rattle.supervisor.specs.Model.SupervisorOfSheet.{tableHead, tableOf, supervisorTable}
 use Rattle.supervisor_table.specs.Model.MaskRows.{keptFlag, tableRow}
-use Rattle.solve.specs.Model.Making.{sheetOf, manyNumber, lostNumber, roomNumber, tableNumber, makingNumber, orderedNumber}
+use Rattle.solve.specs.Model.Making.{sheetOf, manyNumber, lostNumber, roomNumber, tableNumber, makingNumber, dueNumber, orderedNumber}
 use Rattle.values.specs.Meaning.Order.{literalHolds}
 use Rattle.values.specs.Model.Rank.{rankBy, rank}
 use Rattle.values.specs.Model.Values as values
@@ -97,7 +97,7 @@ forecasts = tt
 
 -- how a break is forced
 unfoldable pub plays : Unit {0}
-unfolding supervisors orderedNumber least forcedBytes forcedLength beforeRound forcesAt forcingInput forcedRow forcedOf forcedSize heldNumber
+unfolding supervisors dueNumber orderedNumber least forcedBytes forcedLength beforeRound forcesAt forcingInput forcedRow forcedOf forcedSize heldNumber
 plays = tt
 
 -- load and step

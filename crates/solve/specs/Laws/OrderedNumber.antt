@@ -19,7 +19,7 @@ use Rattle.sheet.specs.declared.layout.Sheet.{Sheet}
 use Rattle.product.specs.Model.ProductNumbering.{stateCount}
 use Rattle.rounds.specs.Model.TableRounds.{isIn}
 use Rattle.solve.specs.Model.Steps.{droppedOf}
-use Rattle.solve.specs.Model.Making.{sheetOf, manyNumber, lostNumber, roomNumber, tableNumber, makingNumber, orderedNumber}
+use Rattle.solve.specs.Model.Making.{sheetOf, manyNumber, lostNumber, roomNumber, tableNumber, makingNumber, dueNumber, orderedNumber}
 use Rattle.solve.specs.Model.SolvingSheet.{solvingNumber, SolvedSheet}
 use Rattle.solve.specs.Model.Opening.{openingNumber}
 use Rattle.solve.specs.Laws.Solving.{numbering-fits}
@@ -31,10 +31,6 @@ pub refused-off : (g : Refusal) → eqb (groundNumber g) 0 ≡ false
 refused-off g = let n = some-number g in ne-eqb (groundNumber g) 0 (λ z. omega (arith, n .1))
 
 -- ---- a sheet in bounds
-
--- what is due of it: 7, then `stop`, then 9
-unfoldable pub dueNumber : Decoded → ℕ → ℕ → ℕ → ℕ
-dueNumber d stop size room = firstNumber (manyNumber d) (firstNumber stop (roomNumber size room))
 
 module _ (d : Decoded) (stop size room : ℕ) where
   -- each of them where it is due, and none
@@ -60,7 +56,7 @@ module _ (d : Decoded) (stop size room : ℕ) where
 module _ (stop size : Decoded → ℕ) (ok : Bool) (s : List ℕ) (room : ℕ) where
   -- a refusal of solving comes first
   pub ordered-first : {m : ℕ} → solvingNumber ok s ≡ suc m → orderedNumber stop size ok s room ≡ suc m
-  unfolding solvingNumber orderedNumber
+  unfolding solvingNumber orderedNumber dueNumber
   ordered-first {m} = go ok
     where
       on : (a b c : ℕ) → firstNumber a b ≡ suc m → firstNumber a (firstNumber b c) ≡ suc m
@@ -69,10 +65,7 @@ module _ (stop size : Decoded → ℕ) (ok : Bool) (s : List ℕ) (room : ℕ) w
       on (suc a) b c e = e
 
       go : (b : Bool) → cond b (firstNumber (sheetNumber s) (manyNumber (sheetOf s))) 10 ≡ suc m
-          → cond b
-          (firstNumber (sheetNumber s)
-          (firstNumber (manyNumber (sheetOf s)) (firstNumber (stop (sheetOf s)) (roomNumber (size (sheetOf s)) room)))) 10
-          ≡ suc m
+          → cond b (firstNumber (sheetNumber s) (dueNumber (sheetOf s) (stop (sheetOf s)) (size (sheetOf s)) room)) 10 ≡ suc m
       go true e = on (sheetNumber s) (manyNumber (sheetOf s)) _ e
       go false e = e
 
@@ -83,7 +76,7 @@ module _ (stop size : Decoded → ℕ) (ok : Bool) (s : List ℕ) (room : ℕ) w
   -- where there is none, the number in the place of 8 is due, and then 9
   pub ordered-past : ok ≡ true → sheetNumber s ≡ 0 → stateCount (sheetOf s) ≤ maxStates
       → orderedNumber stop size ok s room ≡ firstNumber (stop (sheetOf s)) (roomNumber (size (sheetOf s)) room)
-  unfolding orderedNumber dueNumber
+  unfolding orderedNumber
   ordered-past long none fits = rw (long, none) (due-past (sheetOf s) (stop (sheetOf s)) (size (sheetOf s)) room fits)
 
   -- the number is 10, the sheet's, or what is due of a sheet in bounds
@@ -91,7 +84,7 @@ module _ (stop size : Decoded → ℕ) (ok : Bool) (s : List ℕ) (room : ℕ) w
       → (ok ≡ false → number ≡ 10 → X)
       → (ok ≡ true → (sheetNumber s ≡ 0 → ⊥) → number ≡ sheetNumber s → X)
       → (ok ≡ true → sheetNumber s ≡ 0 → number ≡ dueNumber (sheetOf s) (stop (sheetOf s)) (size (sheetOf s)) room → X) → X
-  unfolding orderedNumber dueNumber
+  unfolding orderedNumber
   ordered-cases {X = X} {number = number} e short bad judged =
       by-test ok (λ w. go w (sheetNumber s) refl (e ∙ rw w)) (λ w. short w (e ∙ rw w))
     where
@@ -132,12 +125,12 @@ table-due d size room = refl
 -- and of any bytes
 pub making-ordered : (table : Decoded → List ℕ) (work : Bool) (s : List ℕ) (room : ℕ)
     → makingNumber table work s room ≡ orderedNumber lostNumber (λ d. length (table d)) work s room
-unfolding makingNumber tableNumber orderedNumber
+unfolding makingNumber tableNumber dueNumber orderedNumber
 making-ordered table work s room = refl
 
 -- the opening's: an answer of no bytes always fits
 pub opening-ordered : (work : Bool) (s : List ℕ) → openingNumber work s ≡ orderedNumber lostNumber (λ d. 0) work s 0
-unfolding openingNumber orderedNumber roomNumber
+unfolding openingNumber orderedNumber dueNumber roomNumber
 opening-ordered work s =
     ap (λ (n : ℕ). cond work (firstNumber (sheetNumber s) (firstNumber (manyNumber (sheetOf s)) n)) 10) (last (lostNumber (sheetOf s)))
   where

@@ -24,9 +24,9 @@ use Rattle.product.specs.Model.ProductNumbering.{stateCount}
 use Rattle.rounds.specs.Model.TableRounds.{isIn}
 use Rattle.solve.specs.Meaning.Allowed.{Kept, TooMany, Unrealizable, IsSheet}
 use Rattle.solve.specs.Model.Steps.{droppedOf}
-use Rattle.solve.specs.Model.Making.{sheetOf, lostNumber, roomNumber, orderedNumber}
+use Rattle.solve.specs.Model.Making.{sheetOf, lostNumber, roomNumber, dueNumber, orderedNumber}
 use Rattle.solve.specs.Laws.StateGrounds.{too-many-iff, start-in, start-out}
-use Rattle.solve.specs.Laws.OrderedNumber.{dueNumber, due-many, due-past, due-short, due-none, ordered-cases}
+use Rattle.solve.specs.Laws.OrderedNumber.{due-many, due-past, due-short, due-none, ordered-cases}
 use Rattle.solve.specs.Promises.RefusalOrder.{InOrder}
 
 -- states that are not too many fit

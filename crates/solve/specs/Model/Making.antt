@@ -45,12 +45,13 @@ unfoldable pub makingNumber : (Decoded → List ℕ) → Bool → List ℕ → �
 makingNumber table work s room =
     cond work (firstNumber (sheetNumber s) (tableNumber (sheetOf s) (length (table (sheetOf s))) room)) 10
 
--- 10, then the sheet's, then 7, then the one that stands in the place of 8, then 9, for an answer of `size` bytes
+-- the same of any call: 7, then `stop` in the place of 8, then 9, for an answer of `size` bytes
+unfoldable pub dueNumber : Decoded → ℕ → ℕ → ℕ → ℕ
+dueNumber d stop size room = firstNumber (manyNumber d) (firstNumber stop (roomNumber size room))
+
 unfoldable pub orderedNumber : (Decoded → ℕ) → (Decoded → ℕ) → Bool → List ℕ → ℕ → ℕ
 orderedNumber stop size work s room =
-    cond work
-    (firstNumber (sheetNumber s)
-    (firstNumber (manyNumber (sheetOf s)) (firstNumber (stop (sheetOf s)) (roomNumber (size (sheetOf s)) room)))) 10
+    cond work (firstNumber (sheetNumber s) (dueNumber (sheetOf s) (stop (sheetOf s)) (size (sheetOf s)) room)) 10
 
 -- for a sheet in bounds: the answer and the result by the model
 pub record Judges (table : Decoded → List ℕ) (stateCounts : Decoded → ℕ) (d : Decoded) (before : List ℕ) (r : Made) (after : List ℕ) :
