@@ -1,4 +1,4 @@
-// The maker of plays: for each product state, in how many steps the inputs force a break, and by which input.
+// The maker of plays: for each product state, in how many steps the inputs force a break, by which input, and which monitors break.
 use crate::answer::Forced;
 use crate::answer::Ground;
 use forced_rows::answer_length;
@@ -100,18 +100,12 @@ fn make_with(
             }
             let sheet = solving.sheet;
             let states = solving.states;
-            let length = answer_length(states);
+            let outs = pow2(sheet.outputs);
+            let length = answer_length(outs, states);
             if result.len() < length {
                 return Forced::Refused(Ground::Sheet(Refusal::ShortResult));
             }
-            put_rows(
-                result,
-                cells,
-                dropped,
-                states,
-                pow2(sheet.inputs),
-                pow2(sheet.outputs),
-            );
+            put_rows(result, cells, dropped, states, pow2(sheet.inputs), outs);
             Forced::Play { length, states }
         }
     }

@@ -1,26 +1,34 @@
-// The answer that shows how a break is forced: three bytes for each product state, over a table of steps and the rounds over it.
+// The answer that shows how a break is forced: a row of bytes for each product state, over a table of steps and the rounds over it.
 // The round that dropped a state is the least number of steps in which the inputs force a break from it; 0 says that it is kept.
+use records::cells::broken_monitor;
 use records::cells::is_broken;
 use records::numbers::put_u16;
 use rounds::cell_at;
 use rounds::is_kept;
 ghost use mathlib.Core.Path.{_≡_};
-ghost use Prim.Native.Nat.{_+_, _*_, _≤_, _<_};
+ghost use Prim.Native.Nat.{ℕ, _+_, _≤_, _<_};
 ghost use lib.ListN.{length};
 ghost use lib.Seq.{sets};
-ghost use Rattle.records.specs.Meaning.Limits.{maxIns, maxStates};
-ghost use Rattle.records.specs.Meaning.Lists.{cat};
+ghost use Rattle.records.specs.Meaning.Limits.{maxIns, maxOuts, maxStates};
+ghost use Rattle.records.specs.Meaning.Lists.{tab, cat};
 ghost use Rattle.rounds.specs.Model.TableRounds.{Steps, leadsIn};
 ghost use Rattle.rounds.specs.Laws.CellPlaces.{CellEntered, CellLeads};
 ghost use Rattle.forced_rows.specs.Meaning.ForcedBytes.{forcedLength};
-ghost use Rattle.forced_rows.specs.Model.ForcedRows.{beforeRound, forcesAt, forcingInput, forcedRow};
+ghost use Rattle.forced_rows.specs.Model.ForcedRows.{beforeRound, forcesAt, forcingInput, monitorIn, monitorAt, forcedRow};
 
-// The bytes of an answer for so many states.
-pub fn answer_length(count: usize) -> usize
-    requires { ⌜ count ≤ maxStates ⌝ }
-    ensures { λ r. ⌜ r ≡ forcedLength count ⌝ }
+// What stands for a monitor where none is named.
+pub struct Unnamed {}
+
+impl Unnamed {
+    pub const BYTE: u8 = 255;
+}
+
+// The bytes of an answer for so many output values and states.
+pub fn answer_length(outs: usize, count: usize) -> usize
+    requires { ⌜ (outs ≤ maxOuts) × (count ≤ maxStates) ⌝ }
+    ensures { λ r. ⌜ r ≡ forcedLength outs count ⌝ }
 {
-    3 * count
+    count * (3 + outs)
 }
 
 // Whether a cell is an unbroken step to a state that was in before a round: kept, or dropped in that round or later.
@@ -92,7 +100,65 @@ pub fn forcing_input(
     i as u8
 }
 
-// The three bytes of state k.
+// The monitor that breaks the step of a cell; 255 for an unbroken step.
+pub fn monitor_in(cell: u16) -> u8
+    ensures { λ r. ⌜ r ≡ monitorIn cell ⌝ }
+{
+    if !is_broken(cell) {
+        return Unnamed::BYTE;
+    }
+    broken_monitor(cell)
+}
+
+// The monitor that output o breaks at input i of state k, if the state is one step from its end; else 255.
+pub fn monitor_at(
+    cells: &[u16],
+    dropped: &[u16],
+    n: usize,
+    ins: usize,
+    outs: usize,
+    k: usize,
+    i: usize,
+    o: usize,
+) -> u8
+    requires { ⌜ Steps (now cells) n ins outs ⌝ }
+    requires { ⌜ CellEntered (now dropped) n k ⌝ }
+    requires { ⌜ (i < ins) × (o < outs) ⌝ }
+    ensures { λ r. ⌜ r ≡ monitorAt (now (cells .entry)) (now (dropped .entry)) ins outs k i o ⌝ }
+{
+    if dropped[k] != 1 {
+        return Unnamed::BYTE;
+    }
+    monitor_in(cells[cell_at(ins, outs, k, i, o)])
+}
+
+// The monitors of state k, a byte for each output value.
+pub fn put_monitors(
+    result: &mut [u8],
+    at: usize,
+    cells: &[u16],
+    dropped: &[u16],
+    n: usize,
+    ins: usize,
+    outs: usize,
+    k: usize,
+    i: usize,
+)
+    requires { ⌜ Steps (now cells) n ins outs ⌝ }
+    requires { ⌜ CellEntered (now dropped) n k ⌝ }
+    requires { ⌜ (i < ins) × (at + outs ≤ length (now result)) ⌝ }
+    ensures { λ _. ⌜
+        now (result .exit) ≡ sets (now (result .entry)) at
+        (tab outs (monitorAt (now (cells .entry)) (now (dropped .entry)) ins outs k i)) ⌝ }
+{
+    let mut o: usize = 0;
+    while o < outs {
+        result[at + o] = monitor_at(cells, dropped, n, ins, outs, k, i, o);
+        o += 1;
+    }
+}
+
+// The bytes of state k.
 pub fn put_row(
     result: &mut [u8],
     at: usize,
@@ -105,12 +171,24 @@ pub fn put_row(
 )
     requires { ⌜ Steps (now cells) n ins outs ⌝ }
     requires { ⌜ CellEntered (now dropped) n k ⌝ }
-    requires { ⌜ (ins ≤ maxIns) × (at + 3 ≤ length (now result)) ⌝ }
+    requires { ⌜ (ins ≤ maxIns) × (forcingInput (now cells) (now dropped) ins outs k < ins) × (at + (3 + outs) ≤ length (now result)) ⌝ }
     ensures { λ _. ⌜
         now (result .exit) ≡ sets (now (result .entry)) at (forcedRow (now (cells .entry)) (now (dropped .entry)) ins outs k) ⌝ }
 {
+    let input = forcing_input(cells, dropped, n, ins, outs, k);
     put_u16(result, at, dropped[k]);
-    result[at + 2] = forcing_input(cells, dropped, n, ins, outs, k);
+    result[at + 2] = input;
+    put_monitors(
+        result,
+        at + 3,
+        cells,
+        dropped,
+        n,
+        ins,
+        outs,
+        k,
+        input as usize,
+    );
 }
 
 // The rows of all states, from the start of the result.
@@ -123,13 +201,16 @@ pub fn put_rows(
     outs: usize,
 )
     requires { ⌜ Steps (now cells) n ins outs ⌝ }
-    requires { ⌜ (n ≤ length (now dropped)) × ((n ≤ maxStates) × ((ins ≤ maxIns) × (forcedLength n ≤ length (now result)))) ⌝ }
+    requires { ⌜ (n ≤ length (now dropped)) × (n ≤ maxStates) × (ins ≤ maxIns) × (outs ≤ maxOuts) ⌝ }
+    requires { ⌜ ((k : ℕ) → k < n → forcingInput (now cells) (now dropped) ins outs k < ins) ⌝ }
+    requires { ⌜ forcedLength outs n ≤ length (now result) ⌝ }
     ensures { λ _. ⌜
         now (result .exit) ≡ sets (now (result .entry)) 0 (cat n (forcedRow (now (cells .entry)) (now (dropped .entry)) ins outs)) ⌝ }
 {
+    let width = 3 + outs;
     let mut k: usize = 0;
     while k < n {
-        put_row(result, k * 3, cells, dropped, n, ins, outs, k);
+        put_row(result, k * width, cells, dropped, n, ins, outs, k);
         k += 1;
     }
 }

@@ -3,3 +3,4 @@ pub mod Range
 pub mod States
 pub mod ProductNumbering
 pub mod Stages
+pub mod Outcome

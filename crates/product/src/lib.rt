@@ -2,6 +2,7 @@
 pub mod automaton;
 pub mod letters;
 pub mod monitors;
+pub mod outcome;
 pub mod rewards;
 pub mod shadows;
 pub mod step;

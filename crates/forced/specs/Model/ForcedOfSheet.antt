@@ -25,7 +25,7 @@ forcedOf d = cat (stateCount d) (forcedRow (cellsOf d) (droppedOf d) (inputsOf d
 
 -- and how many they are
 unfoldable pub forcedSize : Decoded → ℕ
-forcedSize d = forcedLength (stateCount d)
+forcedSize d = forcedLength (outputsOf d) (stateCount d)
 
 -- 23: the start is kept
 unfoldable pub heldNumber : Decoded → ℕ

@@ -10,7 +10,8 @@ use lib.Dec.{eqb, ltb, leb}
 use lib.ListN.{length, getD}
 use borrow.Author.Tests.{ltb-true, ltb-false, le-leb, lt-leb}
 use Rattle.records.specs.Meaning.Lists.{cat}
-use Rattle.records.specs.Model.Bounded.{least, Lowest}
+use Rattle.records.specs.Meaning.Bounded.{Lowest}
+use Rattle.records.specs.Model.Bounded.{least}
 use Rattle.records.specs.Laws.Bounded.{any-cong, least-lowest, least-cong}
 use Rattle.records.specs.Laws.Lists.{getD-put-front, length-cat}
 use Rattle.records.specs.Laws.Tests.{by-test, or-right}

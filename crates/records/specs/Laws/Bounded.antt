@@ -8,8 +8,8 @@ use native.Mathlib.Numerals.{add-one}
 use native.Mathlib.Decide.{decLt}
 use native.Mathlib.Omega.{arith}
 use Rattle.records.specs.Laws.Tests.{both-ways, by-test, and-left, and-right, and-both, and-not, or-cases, or-left, or-right}
-use Rattle.records.specs.Meaning.Bounded.{all, any, count, sum}
-use Rattle.records.specs.Model.Bounded.{least, Lowest, top}
+use Rattle.records.specs.Meaning.Bounded.{all, any, Lowest, count, sum}
+use Rattle.records.specs.Model.Bounded.{least, top}
 
 -- a number below n + 1 is below n, or is n
 pub cases-suc {ℓ} : {X : Type ℓ} (i n : ℕ) → i < suc n → (i < n → X) → (i ≡ n → X) → X
@@ -119,6 +119,13 @@ least-lowest (suc n) p zero h e = rw e (first-hit n p e)
 least-lowest (suc n) p (suc i) h e =
     by-test (p 0) (λ y. rw y (first-hit n p y))
     (λ y. rw y (later-hit n p y (least-lowest n (λ k. p (suc k)) i (le-of-suc-le-suc h) e)))
+
+pub some-lowest : (n : ℕ) (p : ℕ → Bool) → any n p ≡ true → Lowest p n (least n p)
+some-lowest n p e = let r = any-at n p e in least-lowest n p (r .0) (r .1) (r .2)
+
+-- and the only lowest
+pub lowest-least : {n : ℕ} {p : ℕ → Bool} {m : ℕ} → Lowest p n m → least n p ≡ m
+lowest-least {n} {p} {m} l = least-hit n p m (l .low) (l .none) (l .hit)
 
 pub least-cong : (n : ℕ) (p q : ℕ → Bool) → ((i : ℕ) → i < n → p i ≡ q i) → least n p ≡ least n q
 unfolding least

@@ -1,7 +1,8 @@
 -- Tests, sums and counts over the numbers below a bound.
 -- Assumes nothing.
+use mathlib.Core.Path.{_≡_}
 use mathlib.Core.Bool.{Bool, true, false, cond, _&&_, _||_}
-use Prim.Native.Nat.{ℕ, zero, suc, _+_}
+use Prim.Native.Nat.{ℕ, zero, suc, _+_, _<_}
 
 -- ---- for all
 
@@ -16,6 +17,14 @@ all (suc n) p = all n p && p n
 unfoldable pub any : ℕ → (ℕ → Bool) → Bool
 any zero p = false
 any (suc n) p = any n p || p n
+
+-- ---- the first
+
+-- m is the lowest number below n that passes the test
+pub record Lowest (p : ℕ → Bool) (n m : ℕ) : Type 0 where
+  pub low : m < n
+  pub hit : p m ≡ true
+  pub none : (j : ℕ) → j < m → p j ≡ false
 
 -- ---- how many
 

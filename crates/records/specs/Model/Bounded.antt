@@ -1,8 +1,7 @@
 -- The least number below a bound that passes a test, and the largest score of those that pass.
 -- Assumes nothing.
-use mathlib.Core.Path.{_≡_}
-use mathlib.Core.Bool.{Bool, true, false, cond}
-use Prim.Native.Nat.{ℕ, zero, suc, max, _<_}
+use mathlib.Core.Bool.{Bool, cond}
+use Prim.Native.Nat.{ℕ, zero, suc, max}
 
 -- ---- the least
 
@@ -10,12 +9,6 @@ use Prim.Native.Nat.{ℕ, zero, suc, max, _<_}
 unfoldable pub least : ℕ → (ℕ → Bool) → ℕ
 least zero p = 0
 least (suc n) p = cond (p 0) 0 (suc (least n (λ k. p (suc k))))
-
--- m is the lowest number below n that passes the test
-pub record Lowest (p : ℕ → Bool) (n m : ℕ) : Type 0 where
-  pub low : m < n
-  pub hit : p m ≡ true
-  pub none : (j : ℕ) → j < m → p j ≡ false
 
 -- ---- the largest
 
