@@ -6,3 +6,4 @@ pub mod Range
 pub mod Rewards
 pub mod Tuples
 pub mod Counts
+pub mod Outcome
