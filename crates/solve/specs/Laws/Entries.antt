@@ -10,22 +10,23 @@ use native.Mathlib.Omega.{arith}
 use lib.Arith.{digits-lt, digits-div, digits-mod}
 use lib.Dec.{eqb}
 use lib.ListN.{length, getD, length-replicate}
+use borrow.Author.Tests.{not-true}
 use Rattle.records.specs.Laws.Tests.{by-test, both-ways}
 use Rattle.records.specs.Meaning.Limits.{maxStates}
 use Rattle.records.specs.Laws.Lists.{getD-tab, length-tab}
 use Rattle.records.specs.Meaning.Numbers.{zeros}
 use Rattle.sheet.specs.Meaning.Decoded.{Decoded}
-use Rattle.product.specs.Meaning.Step.{inputsOf, outputsOf, advance, unbroken, firstTuple}
+use Rattle.product.specs.Meaning.Step.{inputsOf, outputsOf, advance, broken, unbroken, BrokenBy, firstTuple}
 use Rattle.product.specs.Model.States.{lettersOf}
 use Rattle.product.specs.Meaning.States.{Reached}
 use Rattle.product.specs.Model.ProductNumbering.{stateCount, stateOf, numberOf, cellOf}
 use Rattle.product.specs.Laws.ProductNumbering.{reached-number, number-state, state-number, state-reached, step-number, quiet-round}
+use Rattle.product.specs.Laws.Outcome.{cell-whole, cell-marked, cell-breaks}
 use Rattle.game.specs.Model.Rounds.{keptAfter, droppedBy, may, Quiet}
 use Rattle.game.specs.Laws.Rounds.{quiet-on, kept-dropped, kept-iff, lost-iff, allowed-iff}
 use Rattle.game.specs.Laws.Naming.{Names, dropped-named}
 use Rattle.game.specs.Laws.Reachable.{letter-low, letter-input, letter-output, input-low, output-low, reachable-closed}
-use Rattle.records.specs.Model.Cells.{brokenCell, isBroken}
-use Rattle.records.specs.Laws.Cells.{mark-broken, number-unbroken}
+use Rattle.records.specs.Model.Cells.{brokenFrom, brokenCell, isBroken}
 use Rattle.rounds.specs.Model.TableRounds.{Steps, cellAt, isIn, leadsIn, rounds, settled}
 use Rattle.rounds.specs.Laws.TableRounds.{length-rounds}
 use Rattle.solve.specs.Meaning.Allowed.{Kept, Lost, Allowed}
@@ -49,6 +50,16 @@ module _ (d : Decoded) where
       getD-tab (stateCount d * lettersOf d) _ (k * lettersOf d + (i + inputsOf d * o)) 0 (digits-lt hk low)
       ∙ rw (digits-div k low, digits-mod k low, letter-input (inputsOf d) i o hi, letter-output (inputsOf d) i o hi)
 
+  -- a step that is not broken leads to the number of the next tuple, and a broken one is marked
+  whole-is : (k i o : ℕ) → broken d (stateOf d k) i o ≡ false → cellOf d k i o ≡ numberOf d (advance d (stateOf d k) i o)
+  unfolding cellOf
+  whole-is k i o e = cell-whole d (stateOf d k) i o _ e
+
+  pub mark-is : (k i o : ℕ) {j : ℕ} → k < stateCount d → i < inputsOf d → o < outputsOf d → BrokenBy d (stateOf d k) i o j
+      → getD (cellsOf d) (cellAt (inputsOf d) (outputsOf d) k i o) 0 ≡ brokenCell j
+  unfolding cellOf
+  mark-is k i o hk hi ho b = cell-is k i o hk hi ho ∙ cell-marked d (stateOf d k) i o _ b
+
   -- the rounds have an entry for each state
   pub length-dropped : length (droppedOf d) ≡ stateCount d
   unfolding droppedOf settled
@@ -57,17 +68,18 @@ module _ (d : Decoded) where
       ∙ length-replicate (stateCount d) 0
 
   module _ (fits : stateCount d ≤ maxStates) where
-    -- a cell that is not broken holds a state's number
+    -- a cell is broken exactly if its step is, and else holds a state's number
+    broken-is : (k i o : ℕ) → k < stateCount d → i < inputsOf d → o < outputsOf d
+        → isBroken (cellOf d k i o) ≡ broken d (stateOf d k) i o
+    unfolding cellOf
+    broken-is k i o hk hi ho =
+        cell-breaks d (stateOf d k) i o _ (λ e. omega (arith, step-number d fits k i o hk hi ho (ap not e) .0))
+
     cell-in-range : (k i o : ℕ) → k < stateCount d → i < inputsOf d → o < outputsOf d
         → isBroken (cellOf d k i o) ≡ false → cellOf d k i o < stateCount d
-    unfolding cellOf
-    cell-in-range k i o hk hi ho = go (unbroken d (stateOf d k) i o) (λ e. step-number d fits k i o hk hi ho e .0)
-      where
-        go : (b : Bool) → (b ≡ true → numberOf d (advance d (stateOf d k) i o) < stateCount d)
-            → isBroken (cond b (numberOf d (advance d (stateOf d k) i o)) brokenCell) ≡ false
-            → cond b (numberOf d (advance d (stateOf d k) i o)) brokenCell < stateCount d
-        go true f z = f refl
-        go false f z = both-ways mark-broken z
+    cell-in-range k i o hk hi ho e =
+        let whole : broken d (stateOf d k) i o ≡ false = sym (broken-is k i o hk hi ho) ∙ e in
+        rw (whole-is k i o whole) (step-number d fits k i o hk hi ho (ap not whole) .0)
 
     -- the cells are a table of steps
     pub sheet-steps : Steps (cellsOf d) (stateCount d) (inputsOf d) (outputsOf d)
@@ -86,22 +98,16 @@ module _ (d : Decoded) where
     -- a step of the table is unbroken when the tuples' is
     pass-is : (k i o : ℕ) → k < stateCount d → i < inputsOf d → o < outputsOf d
         → passes (cellsOf d) (inputsOf d) (outputsOf d) k i o ≡ unbroken d (stateOf d k) i o
-    unfolding passes goes cellOf
-    pass-is k i o hk hi ho =
-        rw (cell-is k i o hk hi ho)
-        (go (unbroken d (stateOf d k) i o) (λ e. step-number d fits k i o hk hi ho e .0))
-      where
-        go : (b : Bool) → (b ≡ true → numberOf d (advance d (stateOf d k) i o) < stateCount d)
-            → not (isBroken (cond b (numberOf d (advance d (stateOf d k) i o)) brokenCell)) ≡ b
-        go true f = rw (number-unbroken (numberOf d (advance d (stateOf d k) i o)) (omega (arith, f refl)))
-        go false f = rw mark-broken
+    unfolding passes goes
+    pass-is k i o hk hi ho = rw (cell-is k i o hk hi ho) (ap not (broken-is k i o hk hi ho))
 
     -- and leads to the number of the next tuple
     goes-is : (k i o : ℕ) → k < stateCount d → i < inputsOf d → o < outputsOf d
         → passes (cellsOf d) (inputsOf d) (outputsOf d) k i o ≡ true
         → goes (cellsOf d) (inputsOf d) (outputsOf d) k i o ≡ numberOf d (advance d (stateOf d k) i o)
-    unfolding goes cellOf
-    goes-is k i o hk hi ho e = rw (cell-is k i o hk hi ho, sym (pass-is k i o hk hi ho) ∙ e)
+    unfolding goes
+    goes-is k i o hk hi ho e =
+        cell-is k i o hk hi ho ∙ whole-is k i o (not-true (broken d (stateOf d k) i o) (sym (pass-is k i o hk hi ho) ∙ e))
 
     -- the numbers are names of the tuples
     pub numbers-name : Names ℕ (List ℕ) (inputsOf d) (outputsOf d)
