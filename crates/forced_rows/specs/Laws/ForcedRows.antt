@@ -1,42 +1,77 @@
--- The rows of the answer: their format and length, the input that they name, and that memories which agree give the same rows.
+-- The rows of the answer: their format and length, the input and the monitors that they name, and that memories which agree give the
+-- same rows.
 -- Assumes nothing.
 use mathlib.Core.Path.{_≡_, refl, sym, ap, ap₂, _∙_}
 use mathlib.Core.Bool.{Bool, true, false, cond, not, _||_}
-use mathlib.Core.List.{List}
-use Prim.Native.Nat.{ℕ, _*_, _≤_, _<_}
-use native.Mathlib.Nat.{mul-comm}
+use mathlib.Core.List.{List, _∷_, _++_}
+use Prim.Native.Nat.{ℕ, _+_, _*_, _≤_, _<_}
 use native.Mathlib.Omega.{arith}
 use lib.Dec.{eqb, ltb, leb}
 use lib.ListN.{length, getD}
-use borrow.Author.Tests.{ltb-true, ltb-false, le-leb, lt-leb}
+use borrow.Author.Tests.{ltb-true, ltb-false, le-leb, lt-leb, eq-eqb, ne-eqb}
 use Rattle.records.specs.Meaning.Lists.{cat}
 use Rattle.records.specs.Meaning.Bounded.{Lowest}
+use Rattle.records.specs.Meaning.Numbers.{u16Bytes}
 use Rattle.records.specs.Model.Bounded.{least}
+use Rattle.records.specs.Model.Cells.{brokenCell}
 use Rattle.records.specs.Laws.Bounded.{any-cong, least-lowest, least-cong}
-use Rattle.records.specs.Laws.Lists.{getD-put-front, length-cat}
+use Rattle.records.specs.Laws.Cells.{mark-broken, mark-monitor}
+use Rattle.records.specs.Laws.Lists.{length-tab, tab-ext, getD-put-front, length-cat}
 use Rattle.records.specs.Laws.Tests.{by-test, or-right}
-use Rattle.rounds.specs.Model.TableRounds.{Steps, isIn, answered}
-use Rattle.rounds.specs.Laws.CellPlaces.{cell-in}
+use Rattle.rounds.specs.Model.TableRounds.{Steps, cellAt, isIn, answered}
+use Rattle.rounds.specs.Laws.CellPlaces.{cell-in, row-in-table}
 use Rattle.rounds.specs.Laws.SameRounds.{in-agree, leads-agree}
-use Rattle.forced_rows.specs.Meaning.ForcedBytes.{forcedBytes, forcedAnswer, forcedLength}
-use Rattle.forced_rows.specs.Model.ForcedRows.{beforeRound, forcesAt, forcingInput, forcedRow}
+use Rattle.forced_rows.specs.Meaning.ForcedBytes.{forcedBytes, forcedAnswer, forcedLength, noMonitor}
+use Rattle.forced_rows.specs.Model.ForcedRows.{beforeRound, forcesAt, forcingInput, monitorIn, monitorAt, forcedRow}
 
 -- ---- the format
 
 module _ (cells dropped : List ℕ) (ins outs : ℕ) where
-  pub length-forced-row : (k : ℕ) → length (forcedRow cells dropped ins outs k) ≡ 3
+  pub length-forced-row : (k : ℕ) → length (forcedRow cells dropped ins outs k) ≡ 3 + outs
   unfolding forcedRow forcedBytes
-  length-forced-row k = refl
+  length-forced-row k = omega (arith, length-tab outs (monitorAt cells dropped ins outs k (forcingInput cells dropped ins outs k)))
 
-  -- the rows are the answer that says for each state its round and its input
+  -- the rows are the answer that says for each state its round, its input and the monitors that the outputs break
   pub rows-answer : (n : ℕ)
-      → cat n (forcedRow cells dropped ins outs) ≡ forcedAnswer n (λ k. getD dropped k 0) (forcingInput cells dropped ins outs)
+      → cat n (forcedRow cells dropped ins outs)
+      ≡ forcedAnswer outs n (λ k. getD dropped k 0) (forcingInput cells dropped ins outs)
+      (λ k. monitorAt cells dropped ins outs k (forcingInput cells dropped ins outs k))
   unfolding forcedRow forcedAnswer
   rows-answer n = refl
 
-  pub length-forced-rows : (n : ℕ) → length (cat n (forcedRow cells dropped ins outs)) ≡ forcedLength n
+  pub length-forced-rows : (n : ℕ) → length (cat n (forcedRow cells dropped ins outs)) ≡ forcedLength outs n
   unfolding forcedLength
-  length-forced-rows n = length-cat 3 n (forcedRow cells dropped ins outs) (λ k h. length-forced-row k) ∙ mul-comm n 3
+  length-forced-rows n = length-cat (3 + outs) n (forcedRow cells dropped ins outs) (λ k h. length-forced-row k)
+
+-- the row of a state lies inside the answer
+pub row-inside : (outs : ℕ) {n k : ℕ} → k < n → k * (3 + outs) + (3 + outs) ≤ forcedLength outs n
+unfolding forcedLength
+row-inside outs h = row-in-table (3 + outs) h
+
+-- bytes that differ in nothing below `outs` are the same
+pub bytes-agree : (outs steps input : ℕ) (f g : ℕ → ℕ) → ((o : ℕ) → o < outs → f o ≡ g o)
+    → forcedBytes outs steps input f ≡ forcedBytes outs steps input g
+unfolding forcedBytes
+bytes-agree outs steps input f g h = ap (λ (l : List ℕ). u16Bytes steps ++ (input ∷ l)) (tab-ext outs f g h)
+
+-- ---- the monitors
+
+-- the mark of a monitor names it
+pub monitor-marked : (j : ℕ) → monitorIn (brokenCell j) ≡ j
+unfolding monitorIn
+monitor-marked j = rw (mark-broken j) (mark-monitor j)
+
+module _ (cells dropped : List ℕ) (ins outs k i o : ℕ) where
+  -- one step from its end a state has the monitor that the cell names
+  pub monitor-one : getD dropped k 0 ≡ 1
+      → monitorAt cells dropped ins outs k i o ≡ monitorIn (getD cells (cellAt ins outs k i o) 0)
+  unfolding monitorAt
+  monitor-one e = rw (eq-eqb (getD dropped k 0) 1 e)
+
+  -- another has none
+  pub monitor-else : (getD dropped k 0 ≡ 1 → ⊥) → monitorAt cells dropped ins outs k i o ≡ noMonitor
+  unfolding monitorAt
+  monitor-else ne = rw (ne-eqb (getD dropped k 0) 1 ne)
 
 -- ---- the states that were in before a round
 
@@ -98,11 +133,17 @@ module _
         leads-agree table others same (beforeRound (getD b k 0) a) (beforeRound (getD b k 0) b) (before-agree (getD b k 0)) _
         (cell-in table hk hi ho))))
 
-    forcing-agree : (k : ℕ) → k < n → forcingInput cells a ins outs k ≡ forcingInput others b ins outs k
+    pub forcing-agree : (k : ℕ) → k < n → forcingInput cells a ins outs k ≡ forcingInput others b ins outs k
     unfolding forcingInput
     forcing-agree k h = rw (in-agree n a b entries k h, least-cong ins _ _ (λ i hi. forces-agree k i h hi))
 
+    monitor-agree : (k i : ℕ) → k < n → i < ins → (o : ℕ) → o < outs → monitorAt cells a ins outs k i o ≡ monitorAt others b ins outs k i o
+    unfolding monitorAt
+    monitor-agree k i hk hi o ho = rw (entries k hk, same _ (cell-in table hk hi ho))
+
     -- the rows are the same
-    pub forced-agree : (k : ℕ) → k < n → forcedRow cells a ins outs k ≡ forcedRow others b ins outs k
+    pub forced-agree : (k : ℕ) → k < n → forcingInput cells a ins outs k < ins → forcedRow cells a ins outs k ≡ forcedRow others b ins outs k
     unfolding forcedRow
-    forced-agree k h = ap₂ forcedBytes (entries k h) (forcing-agree k h)
+    forced-agree k h low =
+        bytes-agree outs _ _ _ _ (monitor-agree k (forcingInput cells a ins outs k) h low)
+        ∙ ap₂ (λ (steps input : ℕ). forcedBytes outs steps input (monitorAt others b ins outs k input)) (entries k h) (forcing-agree k h)

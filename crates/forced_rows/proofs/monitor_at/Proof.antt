@@ -1,0 +1,65 @@
+-- `forced_rows::monitor_at`: a state that is not one step from its end, and one that is. Assumes nothing.
+use mathlib.Core.Path.{sym, ap, _∙_}
+use Prim.Native.Nat.{ℕ}
+use native.Mathlib.Omega.{arith}
+use lib.ListN.{getD}
+use borrow.Author.Needs.{needs}
+use Rattle.rounds.specs.Laws.CellPlaces.{CellLeads, in-row, leads-at}
+use Rattle.forced_rows.specs.Model.ForcedRows.{monitorIn}
+use Rattle.forced_rows.specs.Laws.ForcedRows.{monitor-one, monitor-else}
+use Rattle.forced_rows.proofs.monitor_at.Statement.{statement}
+use Rattle.forced_rows.proofs.monitor_at.Tie as tie
+
+-- the place that the needs look back to
+abbrev entry : tie.Else1 → tie.Start
+entry c = c .before .before .before .before
+
+-- the cell lies in the table
+found : (c : tie.After-cell-at) → let a = entry (c .before) .args in CellLeads (a .cells .now) (a .dropped .now) (c .cell-at .result)
+found c =
+    let p = entry (c .before) .pre in
+    leads-at (p .0) (p .1 .0) (p .1 .1 .0) (p .1 .1 .1) (c .cell-at .ensures)
+
+mul-if1 : tie.Need-mul-if1
+mul-if1 c = search needs
+
+shared-slice-read-if1 : tie.Need-shared-slice-read-if1
+shared-slice-read-if1 c = search needs
+
+returns : tie.Need-returns
+returns c = sym (monitor-else _ _ _ _ _ _ _ (c .if1 .taken))
+
+cell-at-requires : tie.Need-cell-at-requires
+cell-at-requires c κs =
+    let p = entry c .pre in
+    in-row (p .0) (omega arith) (p .1 .0 .state) (p .1 .1 .0) (p .1 .1 .1)
+
+mul-monitor-in : tie.Need-mul-monitor-in
+mul-monitor-in c = omega (arith, found c .within)
+
+shared-slice-read-monitor-in : tie.Need-shared-slice-read-monitor-in
+shared-slice-read-monitor-in c = found (c .before) .within
+
+monitor-in-requires : tie.Need-monitor-in-requires
+monitor-in-requires c κs = search needs
+
+returns-2 : tie.Need-returns-2
+returns-2 c =
+    let at = c .before .before in
+    let cells = entry (at .before) .args .cells .now in
+    c .monitor-in .ensures
+    ∙ ap (λ (x : ℕ). monitorIn (getD cells x 0)) (at .cell-at .ensures)
+    ∙ sym (monitor-one _ _ _ _ _ _ _ (at .before .if1 .left))
+
+pub monitor-at-spec : {M : Type 1} → statement M
+monitor-at-spec =
+    tie.close
+    (tie.spec
+    mul-if1
+    shared-slice-read-if1
+    returns
+    cell-at-requires
+    mul-monitor-in
+    shared-slice-read-monitor-in
+    monitor-in-requires
+    returns-2)
