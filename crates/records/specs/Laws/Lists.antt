@@ -178,6 +178,11 @@ pub sets-append {ℓ} : {A : Type ℓ} (d : List A) (at : ℕ) (xs ys : List A) 
 sets-append d at [] ys = rw add-zero
 sets-append d at (x ∷ xs) ys = rw (add-suc, ← native.Mathlib.Nat.suc-add) (sets-append (set d at x) (suc at) xs ys)
 
+-- some, one more, and the rest
+pub sets-between {ℓ} : {A : Type ℓ} (d : List A) (at : ℕ) (xs : List A) (x : A) (ys : List A)
+    → sets (set (sets d at xs) (at + length xs) x) (at + length xs + 1) ys ≡ sets d at (xs ++ (x ∷ ys))
+sets-between d at xs x ys = rw add-one (sets-append d at xs (x ∷ ys))
+
 pub sets-one {ℓ} : {A : Type ℓ} (d : List A) (at : ℕ) (x : A) → set d at x ≡ sets d at (x ∷ [])
 sets-one d at x = refl
 
