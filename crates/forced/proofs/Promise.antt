@@ -3,7 +3,7 @@
 use mathlib.Core.Path.{_≡_, refl, sym, ap, _∙_, subst}
 use mathlib.Core.Bool.{false}
 use mathlib.Core.List.{List, _++_}
-use Prim.Native.Nat.{ℕ, _*_, _≤_}
+use Prim.Native.Nat.{ℕ, _≤_}
 use native.Mathlib.Omega.{arith}
 use lib.Dec.{eqb}
 use lib.ListN.{length, take, drop}
@@ -15,6 +15,7 @@ use Rattle.records.specs.Laws.Lists.{sets-front}
 use Rattle.sheet.specs.Meaning.Decoded.{Decoded}
 use Rattle.sheet.specs.Laws.Reading.{only-sheet}
 use Rattle.product.specs.Model.ProductNumbering.{stateCount}
+use Rattle.product.specs.Laws.Outcome.{broken-by}
 use Rattle.rounds.specs.Model.TableRounds.{isIn}
 use Rattle.forced_rows.specs.Meaning.ForcedBytes.{forcedLength}
 use Rattle.forced_rows.specs.Laws.ForcedRows.{length-forced-rows}
@@ -28,19 +29,18 @@ use Rattle.forced.specs.Meaning.Answer.{playNumber, playLength, playStat
 use Rattle.forced.specs.Meaning.Play.{Realizable}
 use Rattle.forced.specs.Model.ForcedOfSheet.{forcedOf, forcedSize, heldNumber, Plays}
 use Rattle.forced.specs.Laws.Shown.{shows}
-use Rattle.forced.specs.Promises.ForcedMaker.{forcedWork, ShowsPlay, Played, Unplayed, MakesForced}
+use Rattle.forced.specs.Promises.ForcedMaker.{forcedWork, answerLength, ShowsPlay, Played, Unplayed, MakesForced}
 use Rattle.forced.specs.declared.answer.Forced.{Forced}
 use Rattle.forced.proofs.Only.{only-answer}
 
--- three bytes a state
-length-is : (d : Decoded) → length (forcedOf d) ≡ 3 * stateCount d
+length-is : (d : Decoded) → length (forcedOf d) ≡ answerLength d
 unfolding forcedOf forcedLength
 length-is d = length-forced-rows (cellsOf d) (droppedOf d) _ _ (stateCount d)
 
 module _
     {s before : List ℕ} {r : Forced} {after : List ℕ} (lent : List ℕ) (plays : Plays (longEnough forcedWork lent) s before r after)
     (same : (d : Decoded) → IsSheet s d → sheetOf s ≡ d)
-    (order : InOrder 23 Realizable Unrealizable (λ d. 3 * stateCount d) (longEnough forcedWork lent) s (length before) (playNumber r))
+    (order : InOrder 23 Realizable Unrealizable answerLength (longEnough forcedWork lent) s (length before) (playNumber r))
   where
     -- what the answer of a sheet says
     says : (d : Decoded) → IsSheet s d → (TooMany d → ⊥) → ShowsPlay d (stateCount d) (forcedOf d)
@@ -53,15 +53,15 @@ module _
         let found = order .exactly .0 e in
         let one : found .0 ≡ d = sym (same (found .0) (found .1)) ∙ same d x in
         let few : TooMany d → ⊥ = subst (λ (y : Decoded). TooMany y → ⊥) one (found .2) in
-        let room : 3 * stateCount d ≤ length before = subst (λ (y : Decoded). 3 * stateCount y ≤ length before) one (found .5) in
-        let size : playLength r ≡ 3 * stateCount d = plays .size ∙ rw e (ap forcedSize (same d x)) in
+        let room : answerLength d ≤ length before = subst (λ (y : Decoded). answerLength y ≤ length before) one (found .5) in
+        let size : playLength r ≡ answerLength d = plays .size ∙ rw e (ap forcedSize (same d x)) in
         let states : playStates r ≡ stateCount d = plays .states ∙ rw e (ap stateCount (same d x)) in
-        let bytes : after ≡ forcedOf d ++ drop (3 * stateCount d) before =
+        let bytes : after ≡ forcedOf d ++ drop (answerLength d) before =
         plays .bytes
         ∙ rw (e, same d x, sets-front before (forcedOf d) (omega (arith, length-is d)))
         (ap (λ (n : ℕ). forcedOf d ++ drop n before) (length-is d)) in
         let front : take (playLength r) after ≡ forcedOf d =
-        rw (size ∙ sym (length-is d), bytes) (take-append-seam (forcedOf d) (drop (3 * stateCount d) before)) in
+        rw (size ∙ sym (length-is d), bytes) (take-append-seam (forcedOf d) (drop (answerLength d) before)) in
         record {
           size = size;
           states = states;
@@ -86,6 +86,7 @@ module _
           unplayed = unwrote;
           shows = says;
           only = λ d x few n bytes y. only-answer d y (says d x few);
+          broken-by = broken-by;
           work-bytes = omega arith;
           work-doubled = omega arith;
         }

@@ -1,36 +1,41 @@
 -- The bytes of a sheet's answer say what they should: the round that dropped a state is the least number of steps in which a break is
--- forced from its tuple, the lowest input without an escape is the one that does so, and the kept states hold out for ever.
+-- forced from its tuple, the lowest input without an escape is the one that does so, the cells name the monitors, and the kept states
+-- hold out for ever.
 -- Assumes nothing.
-use mathlib.Core.Path.{_≡_, refl, sym, ap, _∙_}
+use mathlib.Core.Path.{_≡_, refl, sym, ap, _∙_, subst}
 use mathlib.Core.Logic.{_↔_}
 use mathlib.Core.Bool.{true, false, not}
 use mathlib.Core.List.{List}
 use Prim.Native.Nat.{ℕ, zero, suc, _^_, _≤_, _<_}
 use native.Mathlib.Omega.{arith}
-use lib.ListN.{getD}
+use native.Mathlib.Decide.{ℕ-discrete}
+use lib.ListN.{length, getD}
+use lib.Pow.{pow-pos}
 use borrow.Author.Tests.{eq-eqb, ne-eqb, not-true, not-false}
 use Rattle.records.specs.Meaning.Bounded.{any}
 use Rattle.records.specs.Laws.Bounded.{any-cong}
-use Rattle.records.specs.Meaning.Limits.{maxStates, maxIns}
-use Rattle.records.specs.Laws.Tests.{both-ways}
-use Rattle.sheet.specs.Meaning.Decoded.{Decoded, SheetOk}
-use Rattle.product.specs.Meaning.Step.{inputsOf, outputsOf, advance, unbroken, firstTuple}
+use Rattle.records.specs.Meaning.Limits.{maxStates, maxMonitors}
+use Rattle.records.specs.Laws.Tests.{by-test, both-ways}
+use Rattle.sheet.specs.Meaning.Decoded.{Decoded, SheetOk, inputLines}
+use Rattle.product.specs.Meaning.Step.{inputsOf, outputsOf, advance, broken, unbroken, BrokenBy, firstTuple}
 use Rattle.product.specs.Meaning.States.{Reached}
 use Rattle.product.specs.Model.ProductNumbering.{productStates, stateCount, stateOf}
 use Rattle.product.specs.Laws.ProductNumbering.{state-reached}
 use Rattle.product.specs.Laws.Counts.{inputs-most}
 use Rattle.product.specs.Laws.Ordered.{product-states}
+use Rattle.product.specs.Laws.Outcome.{broken-by, broken-once}
 use Rattle.game.specs.Model.Rounds.{keptAfter, droppedBy, may}
 use Rattle.game.specs.Laws.Rounds.{dropped-le, survives-for-ever}
 use Rattle.game.specs.Laws.Forcing.{kept-by, some-forces, forced}
 use Rattle.game.specs.Laws.Reachable.{reachable-closed}
 use Rattle.rounds.specs.Model.TableRounds.{isIn, answered}
-use Rattle.forced_rows.specs.Meaning.ForcedBytes.{forcedLength}
-use Rattle.forced_rows.specs.Model.ForcedRows.{beforeRound, forcesAt, forcingInput}
+use Rattle.forced_rows.specs.Meaning.ForcedBytes.{forcedLength, noMonitor}
+use Rattle.forced_rows.specs.Model.ForcedRows.{beforeRound, forcesAt, forcingInput, monitorIn, monitorAt}
 use Rattle.forced_rows.specs.Laws.ForcedRows.{before-in, forcing-lowest, forcing-kept, rows-answer, length-forced-rows}
+use Rattle.forced_rows.specs.Laws.ForcedRows.{monitor-marked, monitor-one, monitor-else}
 use Rattle.solve.specs.Meaning.Allowed.{Kept, Lost}
 use Rattle.solve.specs.Model.Steps.{cellsOf, droppedOf}
-use Rattle.solve.specs.Laws.Entries.{length-dropped, dropped-is, in-kept, settled-quiet, state-in, state-out, leads-after}
+use Rattle.solve.specs.Laws.Entries.{mark-is, length-dropped, dropped-is, in-kept, settled-quiet, state-in, state-out, leads-after}
 use Rattle.forced.specs.Meaning.Play.{ForcedFrom, HoldsOut}
 use Rattle.forced.specs.Model.ForcedOfSheet.{forcedOf}
 use Rattle.forced.specs.Promises.ForcedMaker.{ShowsPlay}
@@ -42,6 +47,10 @@ module _ (d : Decoded) (fits : stateCount d ≤ maxStates) where
 
   abbrev inputOf : ℕ → ℕ
   inputOf = forcingInput (cellsOf d) (droppedOf d) (inputsOf d) (outputsOf d)
+
+  -- and the monitor at each output
+  abbrev monitorsOf : ℕ → ℕ → ℕ
+  monitorsOf k = monitorAt (cellsOf d) (droppedOf d) (inputsOf d) (outputsOf d) k (inputOf k)
 
   -- before round m + 1 a state is in when its tuple is kept after m rounds
   in-before : (m : ℕ) → m ≤ stateCount d → (q : ℕ) → q < stateCount d
@@ -114,11 +123,50 @@ module _ (d : Decoded) (fits : stateCount d ≤ maxStates) where
         (reachable-closed (List ℕ) (inputsOf d) (outputsOf d) (advance d) (unbroken d) (firstTuple d)) (stateCount d) (settled-quiet d fits)
         (stateOf d k) (record { inside = state-reached d k h; kept = sym (in-kept d fits k h) ∙ state-in d fits k h .1 q })
 
-    -- the input is a byte
-    input-byte : inputsOf d ≤ maxIns → inputOf k < 2 ^ 8
-    input-byte few =
-        cases (λ e y. omega (arith, forcing-kept (cellsOf d) (droppedOf d) (inputsOf d) (outputsOf d) k y))
-        (λ m e y. omega (arith, forced-is m e y .input))
+    -- the input is one of the sheet's
+    pub input-low : inputOf k < inputsOf d
+    input-low =
+        cases
+        (λ e y. omega (arith, forcing-kept (cellsOf d) (droppedOf d) (inputsOf d) (outputsOf d) k y, pow-pos (inputLines d)))
+        (λ m e y. forced-is m e y .input)
+
+    -- ---- the monitors
+
+    -- one step from the end every output is broken at the input
+    all-broken : stepsOf k ≡ 1 → (o : ℕ) → o < outputsOf d → broken d (stateOf d k) (inputOf k) o ≡ true
+    all-broken e o ho =
+        let one : ForcedFrom d (stateOf d k) 1 (inputOf k) =
+        subst (λ (n : ℕ). ForcedFrom d (stateOf d k) n (inputOf k)) e (lost-forced (lost-some .0 (omega arith))) in
+        by-test (broken d (stateOf d k) (inputOf k) o) (λ y. y) (λ y. absurd (one .begins o ho (ap not y)))
+
+    -- and its cell says by which monitor
+    breaker : stepsOf k ≡ 1 → (o : ℕ) → o < outputsOf d
+        → (j : ℕ) × BrokenBy d (stateOf d k) (inputOf k) o j × (monitorsOf k o ≡ j)
+    breaker e o ho =
+        let by = broken-by d (stateOf d k) (inputOf k) o .0 (all-broken e o ho) in (
+          by .0,
+          by .1,
+          monitor-one (cellsOf d) (droppedOf d) (inputsOf d) (outputsOf d) k (inputOf k) o e
+              ∙ ap monitorIn (mark-is d k (inputOf k) o h input-low ho (by .1)) ∙ monitor-marked (by .0),
+        )
+
+    named : (o : ℕ) → o < outputsOf d → stepsOf k ≡ 1
+        → (j : ℕ) → (monitorsOf k o ≡ j) ↔ BrokenBy d (stateOf d k) (inputOf k) o j
+    named o ho e j =
+        let b = breaker e o ho in (
+          λ z. subst (λ (m : ℕ). BrokenBy d (stateOf d k) (inputOf k) o m) (sym (b .2) ∙ z) (b .1),
+          λ x. b .2 ∙ broken-once d (stateOf d k) (inputOf k) o (b .1) x,
+        )
+
+    unnamed : (o : ℕ) → (stepsOf k ≡ 1 → ⊥) → monitorsOf k o ≡ noMonitor
+    unnamed o ne = monitor-else (cellsOf d) (droppedOf d) (inputsOf d) (outputsOf d) k (inputOf k) o ne
+
+    monitor-byte : length (d .monitors) ≤ maxMonitors → (o : ℕ) → o < outputsOf d → monitorsOf k o < 2 ^ 8
+    monitor-byte few o ho =
+        elim (ℕ-discrete (stepsOf k) 1) [
+          | yes e ↦ let b = breaker e o ho in omega (arith, b .1 .low, b .2)
+          | no ne ↦ omega (arith, unnamed o ne)
+        ]
 
   -- the answer says what it should
   pub shows : SheetOk d → ShowsPlay d (stateCount d) (forcedOf d)
@@ -130,14 +178,18 @@ module _ (d : Decoded) (fits : stateCount d ≤ maxStates) where
         numbered = product-states d fits;
         steps = stepsOf;
         input = inputOf;
+        monitor = monitorsOf;
         bytes-are = rows-answer (cellsOf d) (droppedOf d) (inputsOf d) (outputsOf d) (stateCount d);
         size = unfold forcedLength in length-forced-rows (cellsOf d) (droppedOf d) (inputsOf d) (outputsOf d) (stateCount d);
         steps-most = most;
         two-bytes = λ k h. omega (arith, most k h);
-        one-byte = λ k h. input-byte k h (inputs-most d (ok .head));
+        one-byte = λ k h. omega (arith, input-low k h, inputs-most d (ok .head));
+        monitor-byte = λ k o h. monitor-byte k h (ok .count) o;
         kept-is = kept-zero;
         kept-input = λ k h q. forcing-kept (cellsOf d) (droppedOf d) (inputsOf d) (outputsOf d) k (state-in d fits k h .1 q);
         holds-out = holds-out;
         lost-is = lost-some;
         forced = lost-forced;
+        named = λ k o h. named k h o;
+        unnamed = λ k o h ho. unnamed k h o;
       }

@@ -32,6 +32,10 @@ forcedWork = forcedWorkFor maxStates
 
 -- ---- what the bytes say
 
+-- how many they are
+abbrev pub answerLength : Decoded → ℕ
+answerLength d = stateCount d * (3 + outputsOf d)
+
 -- a row of bytes for each of n product states, in the order of their numbers
 pub record ShowsPlay (d : Decoded) (n : ℕ) (bytes : List ℕ) : Type 0 where
   -- the product states, as first met
@@ -67,9 +71,9 @@ pub record ShowsPlay (d : Decoded) (n : ℕ) (bytes : List ℕ) : Type 0 where
 
 -- what was written: the answer, then what the result held before, and its figures
 pub record Played (d : Decoded) (before : List ℕ) (r : Forced) (after : List ℕ) : Type 0 where
-  pub size : playLength r ≡ stateCount d * (3 + outputsOf d)
+  pub size : playLength r ≡ answerLength d
   pub states : playStates r ≡ stateCount d
-  pub bytes : after ≡ forcedOf d ++ drop (stateCount d * (3 + outputsOf d)) before
+  pub bytes : after ≡ forcedOf d ++ drop (answerLength d) before
   -- of the bytes that were written
   pub shows : ShowsPlay d (playStates r) (take (playLength r) after)
 
@@ -82,8 +86,7 @@ pub record Unplayed (before : List ℕ) (r : Forced) (after : List ℕ) : Type 0
 pub record MakesForced (s before lent : List ℕ) (r : Forced) (after : List ℕ) : Type 0 where
   pub plays : Plays (longEnough forcedWork lent) s before r after
   -- 10, 1 to 6, 7, then 23 in the place of 8 exactly if the sheet is realizable, then 9
-  pub ordered : InOrder 23 Realizable Unrealizable (λ d. stateCount d * (3 + outputsOf d)) (longEnough forcedWork lent) s (length before)
-      (playNumber r)
+  pub ordered : InOrder 23 Realizable Unrealizable answerLength (longEnough forcedWork lent) s (length before) (playNumber r)
   pub never-eight : playNumber r ≡ 8 → ⊥
   pub played : playNumber r ≡ 0 → (d : Decoded) → IsSheet s d → Played d before r after
   pub unplayed : (playNumber r ≡ 0 → ⊥) → Unplayed before r after

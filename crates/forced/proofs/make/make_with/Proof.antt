@@ -7,10 +7,10 @@ use Rattle.records.specs.Meaning.Limits.{maxStates}
 use Rattle.sheet.specs.declared.layout.Verdict.{Verdict}
 use Rattle.product.specs.Model.ProductNumbering.{cellsLength}
 use Rattle.sheet.specs.Laws.LayoutFacts.{inputs-low, outputs-low}
-use Rattle.product.specs.Laws.Counts.{few-inputs}
+use Rattle.product.specs.Laws.Counts.{few-inputs, few-outputs}
 use Rattle.solve.specs.Model.SolvingSheet.{SolvedSheet, SolvesSheet}
 use Rattle.solve.specs.Laws.Solving.{layout-steps}
-use Rattle.forced.proofs.Answered.{plays-refused, plays-held, plays-short, plays-written}
+use Rattle.forced.proofs.Answered.{plays-refused, plays-held, input-inside, plays-short, plays-written}
 use borrow.Author.Needs.{needs}
 use Rattle.forced.proofs.make.make_with.Statement.{statement}
 use Rattle.forced.proofs.make.make_with.Tie as tie
@@ -25,11 +25,14 @@ solved c = c .before .before .before .before .before .before .before .before
 abbrev refused : tie.After-known-told → tie.After-solve-sheet
 refused c = c .before .before .before .before .before .before .before .before .before
 
-abbrev lost : tie.After-answer-length → tie.Else1
+abbrev lost : tie.After-pow2 → tie.Else1
 lost c = c .before .before
 
-abbrev asked : tie.After-put-rows-arg3 → tie.Else2
-asked c = c .before .before .before
+abbrev sized : tie.After-put-rows-arg3 → tie.After-answer-length
+sized c = c .before .before .before .before
+
+abbrev outs : tie.After-pow22 → tie.After-pow2
+outs c = sized (c .before) .before
 
 -- what solving says of a verdict
 abbrev Says : tie.After-solve-sheet → Verdict → Type 0
@@ -77,8 +80,12 @@ same-length-3 c = search needs
 returns : tie.Need-returns
 returns c = plays-held (entry (solved (c .before)) .args .result .now) (ready (c .before)) (c .if1 .taken)
 
+pow2-requires : tie.Need-pow2-requires
+pow2-requires c κs = omega (arith, outputs-low (ready (c .before .before) .fits))
+
 answer-length-requires : tie.Need-answer-length-requires
-answer-length-requires c κs = ready (c .before .before) .solution .numbering .most
+answer-length-requires c κs =
+    let r = ready (lost c .before) in (few-outputs (r .fits) (c .pow2 .ensures), r .solution .numbering .most)
 
 same-length-4 : tie.Need-same-length-4
 same-length-4 c = search needs
@@ -91,26 +98,25 @@ same-length-6 c = search needs
 
 returns-2 : tie.Need-returns-2
 returns-2 c =
-    let at = lost (c .before) in
-    plays-short (entry (solved (at .before)) .args .result .now) (ready (at .before)) (at .if1 .left) (c .before .answer-length .ensures)
-    (omega arith)
-
-pow2-requires : tie.Need-pow2-requires
-pow2-requires c κs = omega (arith, inputs-low (ready (lost (asked c .before) .before) .fits))
+    let at = lost (c .before .before) in
+    plays-short (entry (solved (at .before)) .args .result .now) (ready (at .before)) (at .if1 .left) (c .before .before .pow2 .ensures)
+    (c .before .answer-length .ensures) (omega arith)
 
 pow2-requires-2 : tie.Need-pow2-requires-2
-pow2-requires-2 c κs = omega (arith, outputs-low (ready (lost (asked (c .before) .before) .before) .fits))
+pow2-requires-2 c κs = omega (arith, inputs-low (ready (lost (sized c .before) .before) .fits))
 
 put-rows-requires : tie.Need-put-rows-requires
 put-rows-requires c κs =
-    let sized = asked (c .before .before) .before in
-    let told = lost sized .before in
+    let told = lost (outs c) .before in
     let r = ready told in
     let numbering = r .solution .numbering in
-    let long = rooms told in
-    let ins = c .before .pow2 .ensures in (
-      layout-steps (r .fits) numbering _ _ ins (c .pow22 .ensures) (long .0),
-      (omega (arith, numbering .most, long .1), (numbering .most, (few-inputs (r .fits) ins, omega (arith, sized .answer-length .ensures)))),
+    let ins = c .pow22 .ensures in
+    let outs-are = outs c .pow2 .ensures in (
+      layout-steps (r .fits) numbering _ _ ins outs-are (rooms told .0),
+      (
+        (omega (arith, numbering .most, rooms told .1), numbering .most, few-inputs (r .fits) ins, few-outputs (r .fits) outs-are),
+        (input-inside (entry (solved told) .args .result .now) r ins outs-are (omega (arith, numbering .most, rooms told .1)), omega (arith, sized (c .before) .answer-length .ensures)),
+      ),
     )
 
 same-length-7 : tie.Need-same-length-7
@@ -143,12 +149,11 @@ returns-4 : tie.Need-returns-4
 returns-4 c =
     let wrote = c .before .before in
     let powers = wrote .before in
-    let sized = asked (powers .before .before) .before in
-    let at = lost sized in
+    let at = lost (outs powers) in
     let r = ready (at .before) in
-    plays-written (entry (solved (at .before)) .args .result .now) r (at .if1 .left) (sized .answer-length .ensures) (omega arith) _ _
-    (powers .before .pow2 .ensures) (powers .pow22 .ensures) (omega (arith, r .solution .numbering .most, rooms (at .before) .1))
-    (wrote .put-rows .ensures)
+    plays-written (entry (solved (at .before)) .args .result .now) r (at .if1 .left) (outs powers .pow2 .ensures)
+    (sized (powers .before) .answer-length .ensures) (omega arith) (powers .pow22 .ensures)
+    (omega (arith, r .solution .numbering .most, rooms (at .before) .1)) (wrote .put-rows .ensures)
 
 pub make-with-spec : {M : Type 1} → statement M
 make-with-spec =
@@ -161,12 +166,12 @@ make-with-spec =
     same-length-2
     same-length-3
     returns
+    pow2-requires
     answer-length-requires
     same-length-4
     same-length-5
     same-length-6
     returns-2
-    pow2-requires
     pow2-requires-2
     put-rows-requires
     same-length-7
