@@ -1,5 +1,5 @@
 -- `forced_rows::monitor_at`: a state that is not one step from its end, and one that is. Assumes nothing.
-use mathlib.Core.Path.{sym, ap, _∙_}
+use mathlib.Core.Path.{_≡_, sym, ap, _∙_}
 use Prim.Native.Nat.{ℕ}
 use native.Mathlib.Omega.{arith}
 use lib.ListN.{getD}
@@ -14,6 +14,13 @@ use Rattle.forced_rows.proofs.monitor_at.Tie as tie
 abbrev entry : tie.Else1 → tie.Start
 entry c = c .before .before .before .before
 
+-- the first test tells the states that one step ends
+far : (c : tie.Then1) → let a = c .before .before .before .before .args in getD (a .dropped .now) (a .k) 0 ≡ 1 → ⊥
+far c e = omega arith
+
+near : (c : tie.Else1) → let a = entry c .args in getD (a .dropped .now) (a .k) 0 ≡ 1
+near c = omega arith
+
 -- the cell lies in the table
 found : (c : tie.After-cell-at) → let a = entry (c .before) .args in CellLeads (a .cells .now) (a .dropped .now) (c .cell-at .result)
 found c =
@@ -27,7 +34,7 @@ shared-slice-read-if1 : tie.Need-shared-slice-read-if1
 shared-slice-read-if1 c = search needs
 
 returns : tie.Need-returns
-returns c = sym (monitor-else _ _ _ _ _ _ _ (c .if1 .taken))
+returns c = sym (monitor-else _ _ _ _ _ _ _ (far c))
 
 cell-at-requires : tie.Need-cell-at-requires
 cell-at-requires c κs =
@@ -49,7 +56,7 @@ returns-2 c =
     let cells = entry (at .before) .args .cells .now in
     c .monitor-in .ensures
     ∙ ap (λ (x : ℕ). monitorIn (getD cells x 0)) (at .cell-at .ensures)
-    ∙ sym (monitor-one _ _ _ _ _ _ _ (at .before .if1 .left))
+    ∙ sym (monitor-one _ _ _ _ _ _ _ (near (at .before)))
 
 pub monitor-at-spec : {M : Type 1} → statement M
 monitor-at-spec =

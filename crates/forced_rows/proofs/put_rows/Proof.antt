@@ -4,8 +4,10 @@ use native.Mathlib.Nat.{zero-add}
 use native.Mathlib.Omega.{arith}
 use lib.ListN.{length}
 use Rattle.records.specs.Laws.Stores.{Blocks, no-block, same-blocks, more-blocks, all-blocks}
+use Rattle.rounds.specs.Laws.CellPlaces.{row-in-table}
+use Rattle.forced_rows.specs.Meaning.ForcedBytes.{forcedLength}
 use Rattle.forced_rows.specs.Model.ForcedRows.{forcedRow}
-use Rattle.forced_rows.specs.Laws.ForcedRows.{length-forced-row, row-inside}
+use Rattle.forced_rows.specs.Laws.ForcedRows.{length-forced-row}
 use Rattle.forced_rows.proofs.put_rows.Statement.{statement}
 use Rattle.forced_rows.proofs.put_rows.Tie as tie
 
@@ -24,9 +26,11 @@ abbrev turn : tie.After-slice-known2 Inv-loop μ-loop → tie.In-loop Inv-loop �
 turn c = c .before .before .before .before
 
 -- the row of state k lies inside the result
-inside : (c : tie.In-loop Inv-loop μ-loop) → let width = 3 + entry c .args .outs in
+inside : (c : tie.In-loop Inv-loop μ-loop) →
+    let width = 3 + entry c .args .outs in
     c .before .loop .k * width + width ≤ length (c .before .loop .result)
-inside c = omega (arith, row-inside (entry c .args .outs) (c .loop-test .taken), same-blocks (c .before .loop .inv .1))
+unfolding forcedLength
+inside c = omega (arith, row-in-table (3 + entry c .args .outs) (c .loop-test .taken), same-blocks (c .before .loop .inv .1))
 
 add-width : tie.Need-add-width Inv-loop μ-loop
 add-width c = omega arith
@@ -41,7 +45,7 @@ put-row-requires : tie.Need-put-row-requires Inv-loop μ-loop
 put-row-requires c κs =
     let p = entry (c .before) .pre in (
       p .0,
-      (record { room = omega arith; state = omega arith }, (omega arith, p .1 .1 .0 _ (c .before .loop-test .taken), inside (c .before))),
+      (record { room = omega arith; state = omega arith }, (omega arith, p .1 .1 .0 _ (omega arith), inside (c .before))),
     )
 
 add-k : tie.Need-add-k Inv-loop μ-loop

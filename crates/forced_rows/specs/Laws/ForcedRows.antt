@@ -1,9 +1,9 @@
 -- The rows of the answer: their format and length, the input and the monitors that they name, and that memories which agree give the
 -- same rows.
 -- Assumes nothing.
-use mathlib.Core.Path.{_≡_, refl, sym, ap, ap₂, _∙_}
+use mathlib.Core.Path.{_≡_, refl, sym, ap, _∙_}
 use mathlib.Core.Bool.{Bool, true, false, cond, not, _||_}
-use mathlib.Core.List.{List, _∷_, _++_}
+use mathlib.Core.List.{List}
 use Prim.Native.Nat.{ℕ, _+_, _*_, _≤_, _<_}
 use native.Mathlib.Omega.{arith}
 use lib.Dec.{eqb, ltb, leb}
@@ -11,7 +11,6 @@ use lib.ListN.{length, getD}
 use borrow.Author.Tests.{ltb-true, ltb-false, le-leb, lt-leb, eq-eqb, ne-eqb}
 use Rattle.records.specs.Meaning.Lists.{cat}
 use Rattle.records.specs.Meaning.Bounded.{Lowest}
-use Rattle.records.specs.Meaning.Numbers.{u16Bytes}
 use Rattle.records.specs.Model.Bounded.{least}
 use Rattle.records.specs.Model.Cells.{brokenCell}
 use Rattle.records.specs.Laws.Bounded.{any-cong, least-lowest, least-cong}
@@ -19,7 +18,7 @@ use Rattle.records.specs.Laws.Cells.{mark-broken, mark-monitor}
 use Rattle.records.specs.Laws.Lists.{length-tab, tab-ext, getD-put-front, length-cat}
 use Rattle.records.specs.Laws.Tests.{by-test, or-right}
 use Rattle.rounds.specs.Model.TableRounds.{Steps, cellAt, isIn, answered}
-use Rattle.rounds.specs.Laws.CellPlaces.{cell-in, row-in-table}
+use Rattle.rounds.specs.Laws.CellPlaces.{cell-in}
 use Rattle.rounds.specs.Laws.SameRounds.{in-agree, leads-agree}
 use Rattle.forced_rows.specs.Meaning.ForcedBytes.{forcedBytes, forcedAnswer, forcedLength, noMonitor}
 use Rattle.forced_rows.specs.Model.ForcedRows.{beforeRound, forcesAt, forcingInput, monitorIn, monitorAt, forcedRow}
@@ -43,16 +42,11 @@ module _ (cells dropped : List ℕ) (ins outs : ℕ) where
   unfolding forcedLength
   length-forced-rows n = length-cat (3 + outs) n (forcedRow cells dropped ins outs) (λ k h. length-forced-row k)
 
--- the row of a state lies inside the answer
-pub row-inside : (outs : ℕ) {n k : ℕ} → k < n → k * (3 + outs) + (3 + outs) ≤ forcedLength outs n
-unfolding forcedLength
-row-inside outs h = row-in-table (3 + outs) h
-
--- bytes that differ in nothing below `outs` are the same
-pub bytes-agree : (outs steps input : ℕ) (f g : ℕ → ℕ) → ((o : ℕ) → o < outs → f o ≡ g o)
-    → forcedBytes outs steps input f ≡ forcedBytes outs steps input g
+-- only what is said of the output values counts
+pub bytes-agree : (outs : ℕ) {steps steps′ input input′ : ℕ} (f g : ℕ → ℕ) → steps ≡ steps′ → input ≡ input′
+    → ((o : ℕ) → o < outs → f o ≡ g o) → forcedBytes outs steps input f ≡ forcedBytes outs steps′ input′ g
 unfolding forcedBytes
-bytes-agree outs steps input f g h = ap (λ (l : List ℕ). u16Bytes steps ++ (input ∷ l)) (tab-ext outs f g h)
+bytes-agree outs f g e h each = rw (e, h, tab-ext outs f g each)
 
 -- ---- the monitors
 
@@ -145,5 +139,6 @@ module _
     pub forced-agree : (k : ℕ) → k < n → forcingInput cells a ins outs k < ins → forcedRow cells a ins outs k ≡ forcedRow others b ins outs k
     unfolding forcedRow
     forced-agree k h low =
-        bytes-agree outs _ _ _ _ (monitor-agree k (forcingInput cells a ins outs k) h low)
-        ∙ ap₂ (λ (steps input : ℕ). forcedBytes outs steps input (monitorAt others b ins outs k input)) (entries k h) (forcing-agree k h)
+        bytes-agree outs _ _ (entries k h) (forcing-agree k h) (λ o ho.
+        monitor-agree k (forcingInput cells a ins outs k) h low o ho
+        ∙ ap (λ (i : ℕ). monitorAt others b ins outs k i o) (forcing-agree k h))
