@@ -13,7 +13,11 @@ add-result : tie.Need-add-result
 add-result c = search needs
 
 mul-result : tie.Need-mul-result
-mul-result c = omega (arith, mul-le-mul {n₁ = c .args .count} {m₁ = 3 + c .args .outs} {n₂ = maxStates} {m₂ = 3 + maxOuts} (omega arith) (omega arith))
+mul-result c =
+    omega (
+      arith,
+      mul-le-mul {n₁ = c .args .count} {m₁ = 3 + c .args .outs} {n₂ = maxStates} {m₂ = 3 + maxOuts} (omega arith) (omega arith),
+    )
 
 returns : tie.Need-returns
 unfolding forcedLength

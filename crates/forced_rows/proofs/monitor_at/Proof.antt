@@ -11,20 +11,22 @@ use Rattle.forced_rows.proofs.monitor_at.Statement.{statement}
 use Rattle.forced_rows.proofs.monitor_at.Tie as tie
 
 -- the place that the needs look back to
-abbrev entry : tie.Else1 → tie.Start
-entry c = c .before .before .before .before
+abbrev entry : tie.After-shared-slice-known3 → tie.Start
+entry c = c .before .before .before
 
 -- the first test tells the states that one step ends
-far : (c : tie.Then1) → let a = c .before .before .before .before .args in getD (a .dropped .now) (a .k) 0 ≡ 1 → ⊥
+far : (c : tie.Then1) → let a = entry (c .before) .args in getD (a .dropped .now) (a .k) 0 ≡ 1 → ⊥
 far c e = omega arith
 
-near : (c : tie.Else1) → let a = entry c .args in getD (a .dropped .now) (a .k) 0 ≡ 1
+near : (c : tie.Else1) → let a = entry (c .before) .args in getD (a .dropped .now) (a .k) 0 ≡ 1
 near c = omega arith
 
 -- the cell lies in the table
-found : (c : tie.After-cell-at) → let a = entry (c .before) .args in CellLeads (a .cells .now) (a .dropped .now) (c .cell-at .result)
+found : (c : tie.After-cell-at) →
+    let a = entry (c .before .before) .args in
+    CellLeads (a .cells .now) (a .dropped .now) (c .cell-at .result)
 found c =
-    let p = entry (c .before) .pre in
+    let p = entry (c .before .before) .pre in
     leads-at (p .0) (p .1 .0) (p .1 .1 .0) (p .1 .1 .1) (c .cell-at .ensures)
 
 mul-if1 : tie.Need-mul-if1
@@ -38,7 +40,7 @@ returns c = sym (monitor-else _ _ _ _ _ _ _ (far c))
 
 cell-at-requires : tie.Need-cell-at-requires
 cell-at-requires c κs =
-    let p = entry c .pre in
+    let p = entry (c .before) .pre in
     in-row (p .0) (omega arith) (p .1 .0 .state) (p .1 .1 .0) (p .1 .1 .1)
 
 mul-monitor-in : tie.Need-mul-monitor-in
@@ -53,7 +55,7 @@ monitor-in-requires c κs = search needs
 returns-2 : tie.Need-returns-2
 returns-2 c =
     let at = c .before .before in
-    let cells = entry (at .before) .args .cells .now in
+    let cells = entry (at .before .before) .args .cells .now in
     c .monitor-in .ensures
     ∙ ap (λ (x : ℕ). monitorIn (getD cells x 0)) (at .cell-at .ensures)
     ∙ sym (monitor-one _ _ _ _ _ _ _ (near (at .before)))

@@ -131,12 +131,14 @@ module _
     unfolding forcingInput
     forcing-agree k h = rw (in-agree n a b entries k h, least-cong ins _ _ (λ i hi. forces-agree k i h hi))
 
-    monitor-agree : (k i : ℕ) → k < n → i < ins → (o : ℕ) → o < outs → monitorAt cells a ins outs k i o ≡ monitorAt others b ins outs k i o
+    monitor-agree : (k i : ℕ) → k < n → i < ins → (o : ℕ) → o < outs
+        → monitorAt cells a ins outs k i o ≡ monitorAt others b ins outs k i o
     unfolding monitorAt
     monitor-agree k i hk hi o ho = rw (entries k hk, same _ (cell-in table hk hi ho))
 
     -- the rows are the same
-    pub forced-agree : (k : ℕ) → k < n → forcingInput cells a ins outs k < ins → forcedRow cells a ins outs k ≡ forcedRow others b ins outs k
+    pub forced-agree : (k : ℕ) → k < n → forcingInput cells a ins outs k < ins
+        → forcedRow cells a ins outs k ≡ forcedRow others b ins outs k
     unfolding forcedRow
     forced-agree k h low =
         bytes-agree outs _ _ (entries k h) (forcing-agree k h) (λ o ho.
