@@ -1,6 +1,6 @@
 -- What the bytes say leaves no choice: only one list of bytes says it.
 -- Assumes nothing.
-use mathlib.Core.Path.{_≡_, refl, sym, ap, ap₂, _∙_, subst}
+use mathlib.Core.Path.{_≡_, refl, sym, ap, _∙_, subst}
 use mathlib.Core.List.{List}
 use Prim.Native.Nat.{ℕ, _<_}
 use native.Mathlib.Decide.{decLt, ℕ-discrete}
@@ -61,9 +61,7 @@ module _ (d : Decoded) {n m : ℕ} {a b : List ℕ} (x : ShowsPlay d n a) (y : S
 
     same-bytes : forcedBytes (outputsOf d) (x .steps k) (x .input k) (x .monitor k)
         ≡ forcedBytes (outputsOf d) (y .steps k) (y .input k) (y .monitor k)
-    same-bytes =
-        bytes-agree (outputsOf d) _ _ (x .monitor k) (y .monitor k) same-monitor
-        ∙ ap₂ (λ (steps input : ℕ). forcedBytes (outputsOf d) steps input (y .monitor k)) (same-forced .0) (same-forced .1)
+    same-bytes = bytes-agree (outputsOf d) (x .monitor k) (y .monitor k) (same-forced .0) (same-forced .1) same-monitor
 
   -- two answers that say this are one
   pub only-answer : a ≡ b
