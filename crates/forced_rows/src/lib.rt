@@ -14,13 +14,14 @@ ghost use Rattle.records.specs.Meaning.Lists.{tab, cat};
 ghost use Rattle.rounds.specs.Model.TableRounds.{Steps, leadsIn};
 ghost use Rattle.rounds.specs.Laws.CellPlaces.{CellEntered, CellLeads};
 ghost use Rattle.forced_rows.specs.Meaning.ForcedBytes.{forcedLength};
-ghost use Rattle.forced_rows.specs.Model.ForcedRows.{beforeRound, forcesAt, forcingInput, monitorIn, monitorAt, forcedRow};
+ghost use Rattle.forced_rows.specs.Model.ForcedRows.{beforeRound, forcesAt, forcingInput, breakerIn, breakerAt, forcedRow};
 
-// What stands for a monitor where none is named.
-pub struct Unnamed {}
+// The monitor that breaks a step, as a byte of the answer.
+pub struct Breaker {}
 
-impl Unnamed {
-    pub const BYTE: u8 = 255;
+impl Breaker {
+    // Where none is named.
+    pub const NONE: u8 = 255;
 }
 
 // The bytes of an answer for so many output values and states.
@@ -101,17 +102,17 @@ pub fn forcing_input(
 }
 
 // The monitor that breaks the step of a cell; 255 for an unbroken step.
-pub fn monitor_in(cell: u16) -> u8
-    ensures { λ r. ⌜ r ≡ monitorIn cell ⌝ }
+pub fn breaker_in(cell: u16) -> u8
+    ensures { λ r. ⌜ r ≡ breakerIn cell ⌝ }
 {
     if !is_broken(cell) {
-        return Unnamed::BYTE;
+        return Breaker::NONE;
     }
     broken_monitor(cell)
 }
 
 // The monitor that output o breaks at input i of state k, if the state is one step from its end; else 255.
-pub fn monitor_at(
+pub fn breaker_at(
     cells: &[u16],
     dropped: &[u16],
     n: usize,
@@ -124,16 +125,16 @@ pub fn monitor_at(
     requires { ⌜ Steps (now cells) n ins outs ⌝ }
     requires { ⌜ CellEntered (now dropped) n k ⌝ }
     requires { ⌜ (i < ins) × (o < outs) ⌝ }
-    ensures { λ r. ⌜ r ≡ monitorAt (now (cells .entry)) (now (dropped .entry)) ins outs k i o ⌝ }
+    ensures { λ r. ⌜ r ≡ breakerAt (now (cells .entry)) (now (dropped .entry)) ins outs k i o ⌝ }
 {
     if dropped[k] != 1 {
-        return Unnamed::BYTE;
+        return Breaker::NONE;
     }
-    monitor_in(cells[cell_at(ins, outs, k, i, o)])
+    breaker_in(cells[cell_at(ins, outs, k, i, o)])
 }
 
 // The monitors of state k, a byte for each output value.
-pub fn put_monitors(
+pub fn put_breakers(
     result: &mut [u8],
     at: usize,
     cells: &[u16],
@@ -149,11 +150,11 @@ pub fn put_monitors(
     requires { ⌜ (i < ins) × (at + outs ≤ length (now result)) ⌝ }
     ensures { λ _. ⌜
         now (result .exit) ≡ sets (now (result .entry)) at
-        (tab outs (monitorAt (now (cells .entry)) (now (dropped .entry)) ins outs k i)) ⌝ }
+        (tab outs (breakerAt (now (cells .entry)) (now (dropped .entry)) ins outs k i)) ⌝ }
 {
     let mut o: usize = 0;
     while o < outs {
-        result[at + o] = monitor_at(cells, dropped, n, ins, outs, k, i, o);
+        result[at + o] = breaker_at(cells, dropped, n, ins, outs, k, i, o);
         o += 1;
     }
 }
@@ -178,7 +179,7 @@ pub fn put_row(
     let input = forcing_input(cells, dropped, n, ins, outs, k);
     put_u16(result, at, dropped[k]);
     result[at + 2] = input;
-    put_monitors(
+    put_breakers(
         result,
         at + 3,
         cells,

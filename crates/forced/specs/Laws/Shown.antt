@@ -29,10 +29,10 @@ use Rattle.game.specs.Laws.Rounds.{dropped-le, survives-for-ever}
 use Rattle.game.specs.Laws.Forcing.{kept-by, some-forces, forced}
 use Rattle.game.specs.Laws.Reachable.{reachable-closed}
 use Rattle.rounds.specs.Model.TableRounds.{isIn, answered}
-use Rattle.forced_rows.specs.Meaning.ForcedBytes.{forcedLength, noMonitor}
-use Rattle.forced_rows.specs.Model.ForcedRows.{beforeRound, forcesAt, forcingInput, monitorIn, monitorAt}
+use Rattle.forced_rows.specs.Meaning.ForcedBytes.{forcedLength, noBreaker}
+use Rattle.forced_rows.specs.Model.ForcedRows.{beforeRound, forcesAt, forcingInput, breakerIn, breakerAt}
 use Rattle.forced_rows.specs.Laws.ForcedRows.{before-in, forcing-lowest, forcing-kept, rows-answer, length-forced-rows}
-use Rattle.forced_rows.specs.Laws.ForcedRows.{monitor-marked, monitor-one, monitor-else}
+use Rattle.forced_rows.specs.Laws.ForcedRows.{breaker-marked, breaker-one, breaker-else}
 use Rattle.solve.specs.Meaning.Allowed.{Kept, Lost}
 use Rattle.solve.specs.Model.Steps.{cellsOf, droppedOf}
 use Rattle.solve.specs.Laws.Entries.{mark-is, length-dropped, dropped-is, in-kept, settled-quiet, state-in, state-out, leads-after}
@@ -49,8 +49,8 @@ module _ (d : Decoded) (fits : stateCount d ≤ maxStates) where
   inputOf = forcingInput (cellsOf d) (droppedOf d) (inputsOf d) (outputsOf d)
 
   -- and the monitor at each output
-  abbrev monitorsOf : ℕ → ℕ → ℕ
-  monitorsOf k = monitorAt (cellsOf d) (droppedOf d) (inputsOf d) (outputsOf d) k (inputOf k)
+  abbrev breakersOf : ℕ → ℕ → ℕ
+  breakersOf k = breakerAt (cellsOf d) (droppedOf d) (inputsOf d) (outputsOf d) k (inputOf k)
 
   -- before round m + 1 a state is in when its tuple is kept after m rounds
   in-before : (m : ℕ) → m ≤ stateCount d → (q : ℕ) → q < stateCount d
@@ -141,27 +141,27 @@ module _ (d : Decoded) (fits : stateCount d ≤ maxStates) where
 
     -- and its cell says by which monitor
     breaker : stepsOf k ≡ 1 → (o : ℕ) → o < outputsOf d
-        → (j : ℕ) × BrokenBy d (stateOf d k) (inputOf k) o j × (monitorsOf k o ≡ j)
+        → (j : ℕ) × BrokenBy d (stateOf d k) (inputOf k) o j × (breakersOf k o ≡ j)
     breaker e o ho =
         let by = broken-by d (stateOf d k) (inputOf k) o .0 (all-broken e o ho) in (
           by .0,
           by .1,
-          monitor-one (cellsOf d) (droppedOf d) (inputsOf d) (outputsOf d) k (inputOf k) o e
-              ∙ ap monitorIn (mark-is d k (inputOf k) o h input-low ho (by .1)) ∙ monitor-marked (by .0),
+          breaker-one (cellsOf d) (droppedOf d) (inputsOf d) (outputsOf d) k (inputOf k) o e
+              ∙ ap breakerIn (mark-is d k (inputOf k) o h input-low ho (by .1)) ∙ breaker-marked (by .0),
         )
 
     named : (o : ℕ) → o < outputsOf d → stepsOf k ≡ 1
-        → (j : ℕ) → (monitorsOf k o ≡ j) ↔ BrokenBy d (stateOf d k) (inputOf k) o j
+        → (j : ℕ) → (breakersOf k o ≡ j) ↔ BrokenBy d (stateOf d k) (inputOf k) o j
     named o ho e j =
         let b = breaker e o ho in (
           λ z. subst (λ (m : ℕ). BrokenBy d (stateOf d k) (inputOf k) o m) (sym (b .2) ∙ z) (b .1),
           λ x. b .2 ∙ broken-once d (stateOf d k) (inputOf k) o (b .1) x,
         )
 
-    unnamed : (o : ℕ) → (stepsOf k ≡ 1 → ⊥) → monitorsOf k o ≡ noMonitor
-    unnamed o ne = monitor-else (cellsOf d) (droppedOf d) (inputsOf d) (outputsOf d) k (inputOf k) o ne
+    unnamed : (o : ℕ) → (stepsOf k ≡ 1 → ⊥) → breakersOf k o ≡ noBreaker
+    unnamed o ne = breaker-else (cellsOf d) (droppedOf d) (inputsOf d) (outputsOf d) k (inputOf k) o ne
 
-    monitor-byte : length (d .monitors) ≤ maxMonitors → (o : ℕ) → o < outputsOf d → monitorsOf k o < 2 ^ 8
+    monitor-byte : length (d .monitors) ≤ maxMonitors → (o : ℕ) → o < outputsOf d → breakersOf k o < 2 ^ 8
     monitor-byte few o ho =
         elim (ℕ-discrete (stepsOf k) 1) [
           | yes e ↦ let b = breaker e o ho in omega (arith, b .1 .low, b .2)
@@ -178,7 +178,7 @@ module _ (d : Decoded) (fits : stateCount d ≤ maxStates) where
         numbered = product-states d fits;
         steps = stepsOf;
         input = inputOf;
-        monitor = monitorsOf;
+        monitor = breakersOf;
         bytes-are = rows-answer (cellsOf d) (droppedOf d) (inputsOf d) (outputsOf d) (stateCount d);
         size = unfold forcedLength in length-forced-rows (cellsOf d) (droppedOf d) (inputsOf d) (outputsOf d) (stateCount d);
         steps-most = most;

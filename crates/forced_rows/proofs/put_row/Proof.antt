@@ -10,7 +10,7 @@ use Rattle.records.specs.Meaning.Lists.{tab}
 use Rattle.records.specs.Meaning.Numbers.{u16Bytes}
 use Rattle.records.specs.Laws.Lists.{sets-between}
 use Rattle.forced_rows.specs.Meaning.ForcedBytes.{forcedBytes}
-use Rattle.forced_rows.specs.Model.ForcedRows.{monitorAt, forcedRow}
+use Rattle.forced_rows.specs.Model.ForcedRows.{breakerAt, forcedRow}
 use Rattle.forced_rows.proofs.put_row.Statement.{statement}
 use Rattle.forced_rows.proofs.put_row.Tie as tie
 
@@ -27,7 +27,7 @@ row-stored before at outs steps input f {now} {next} {x} e is wrote =
     ∙ sets-between before at (u16Bytes steps) input (tab outs (f input))
 
 -- the places that the needs look back to
-abbrev stored : tie.After-put-monitors-arg → tie.After-put-u16
+abbrev stored : tie.After-put-breakers-arg → tie.After-put-u16
 stored c = c .before .before .before
 
 abbrev asked : tie.After-put-u16 → tie.After-forcing-input
@@ -36,7 +36,7 @@ asked c = c .before .before .before
 abbrev entry : tie.After-forcing-input → tie.Start
 entry c = c .before .before .before .before
 
-abbrev wrote : tie.After-slice-known3 → tie.After-put-monitors
+abbrev wrote : tie.After-slice-known3 → tie.After-put-breakers
 wrote c = c .before .before
 
 -- the result with the round and the input is as long as it was
@@ -63,20 +63,20 @@ add-result c = search needs
 slice-write-result : tie.Need-slice-write-result
 slice-write-result c = search needs
 
-add-put-monitors : tie.Need-add-put-monitors
-add-put-monitors c = search needs
+add-put-breakers : tie.Need-add-put-breakers
+add-put-breakers c = search needs
 
-cast-put-monitors : tie.Need-cast-put-monitors
-cast-put-monitors c = search needs
+cast-put-breakers : tie.Need-cast-put-breakers
+cast-put-breakers c = search needs
 
-put-monitors-requires : tie.Need-put-monitors-requires
-put-monitors-requires c κs =
+put-breakers-requires : tie.Need-put-breakers-requires
+put-breakers-requires c κs =
     let at = asked (stored c) in
     let p = entry at .pre in
     (p .0, (p .1 .0, (omega (arith, at .forcing-input .ensures), omega (arith, same (stored c)))))
 
 same-length : tie.Need-same-length
-same-length c = wrote c .put-monitors .kept .0 ∙ same (stored (wrote c .before))
+same-length c = wrote c .put-breakers .kept .0 ∙ same (stored (wrote c .before))
 
 returns : tie.Need-returns
 unfolding forcedRow
@@ -84,8 +84,8 @@ returns c =
     let before = stored (wrote c .before) in
     let at = asked before in
     let a = entry at .args in
-    row-stored _ _ _ _ _ (monitorAt (a .cells .now) (a .dropped .now) (a .ins) (a .outs) (a .k)) (before .put-u16 .ensures)
-    (at .forcing-input .ensures) (wrote c .put-monitors .ensures)
+    row-stored _ _ _ _ _ (breakerAt (a .cells .now) (a .dropped .now) (a .ins) (a .outs) (a .k)) (before .put-u16 .ensures)
+    (at .forcing-input .ensures) (wrote c .put-breakers .ensures)
 
 pub put-row-spec : {M : Type 1} → statement M
 put-row-spec =
@@ -97,8 +97,8 @@ put-row-spec =
     put-u16-requires
     add-result
     slice-write-result
-    add-put-monitors
-    cast-put-monitors
-    put-monitors-requires
+    add-put-breakers
+    cast-put-breakers
+    put-breakers-requires
     same-length
     returns)

@@ -20,21 +20,21 @@ use Rattle.records.specs.Laws.Tests.{by-test, or-right}
 use Rattle.rounds.specs.Model.TableRounds.{Steps, cellAt, isIn, answered}
 use Rattle.rounds.specs.Laws.CellPlaces.{cell-in}
 use Rattle.rounds.specs.Laws.SameRounds.{in-agree, leads-agree}
-use Rattle.forced_rows.specs.Meaning.ForcedBytes.{forcedBytes, forcedAnswer, forcedLength, noMonitor}
-use Rattle.forced_rows.specs.Model.ForcedRows.{beforeRound, forcesAt, forcingInput, monitorIn, monitorAt, forcedRow}
+use Rattle.forced_rows.specs.Meaning.ForcedBytes.{forcedBytes, forcedAnswer, forcedLength, noBreaker}
+use Rattle.forced_rows.specs.Model.ForcedRows.{beforeRound, forcesAt, forcingInput, breakerIn, breakerAt, forcedRow}
 
 -- ---- the format
 
 module _ (cells dropped : List ℕ) (ins outs : ℕ) where
   pub length-forced-row : (k : ℕ) → length (forcedRow cells dropped ins outs k) ≡ 3 + outs
   unfolding forcedRow forcedBytes
-  length-forced-row k = omega (arith, length-tab outs (monitorAt cells dropped ins outs k (forcingInput cells dropped ins outs k)))
+  length-forced-row k = omega (arith, length-tab outs (breakerAt cells dropped ins outs k (forcingInput cells dropped ins outs k)))
 
   -- the rows are the answer that says for each state its round, its input and the monitors that the outputs break
   pub rows-answer : (n : ℕ)
       → cat n (forcedRow cells dropped ins outs)
       ≡ forcedAnswer outs n (λ k. getD dropped k 0) (forcingInput cells dropped ins outs)
-      (λ k. monitorAt cells dropped ins outs k (forcingInput cells dropped ins outs k))
+      (λ k. breakerAt cells dropped ins outs k (forcingInput cells dropped ins outs k))
   unfolding forcedRow forcedAnswer
   rows-answer n = refl
 
@@ -51,21 +51,21 @@ bytes-agree outs f g e h each = rw (e, h, tab-ext outs f g each)
 -- ---- the monitors
 
 -- the mark of a monitor names it
-pub monitor-marked : (j : ℕ) → monitorIn (brokenCell j) ≡ j
-unfolding monitorIn
-monitor-marked j = rw (mark-broken j) (mark-monitor j)
+pub breaker-marked : (j : ℕ) → breakerIn (brokenCell j) ≡ j
+unfolding breakerIn
+breaker-marked j = rw (mark-broken j) (mark-monitor j)
 
 module _ (cells dropped : List ℕ) (ins outs k i o : ℕ) where
   -- one step from its end a state has the monitor that the cell names
-  pub monitor-one : getD dropped k 0 ≡ 1
-      → monitorAt cells dropped ins outs k i o ≡ monitorIn (getD cells (cellAt ins outs k i o) 0)
-  unfolding monitorAt
-  monitor-one e = rw (eq-eqb (getD dropped k 0) 1 e)
+  pub breaker-one : getD dropped k 0 ≡ 1
+      → breakerAt cells dropped ins outs k i o ≡ breakerIn (getD cells (cellAt ins outs k i o) 0)
+  unfolding breakerAt
+  breaker-one e = rw (eq-eqb (getD dropped k 0) 1 e)
 
   -- another has none
-  pub monitor-else : (getD dropped k 0 ≡ 1 → ⊥) → monitorAt cells dropped ins outs k i o ≡ noMonitor
-  unfolding monitorAt
-  monitor-else ne = rw (ne-eqb (getD dropped k 0) 1 ne)
+  pub breaker-else : (getD dropped k 0 ≡ 1 → ⊥) → breakerAt cells dropped ins outs k i o ≡ noBreaker
+  unfolding breakerAt
+  breaker-else ne = rw (ne-eqb (getD dropped k 0) 1 ne)
 
 -- ---- the states that were in before a round
 
@@ -131,10 +131,10 @@ module _
     unfolding forcingInput
     forcing-agree k h = rw (in-agree n a b entries k h, least-cong ins _ _ (λ i hi. forces-agree k i h hi))
 
-    monitor-agree : (k i : ℕ) → k < n → i < ins → (o : ℕ) → o < outs
-        → monitorAt cells a ins outs k i o ≡ monitorAt others b ins outs k i o
-    unfolding monitorAt
-    monitor-agree k i hk hi o ho = rw (entries k hk, same _ (cell-in table hk hi ho))
+    breaker-agree : (k i : ℕ) → k < n → i < ins → (o : ℕ) → o < outs
+        → breakerAt cells a ins outs k i o ≡ breakerAt others b ins outs k i o
+    unfolding breakerAt
+    breaker-agree k i hk hi o ho = rw (entries k hk, same _ (cell-in table hk hi ho))
 
     -- the rows are the same
     pub forced-agree : (k : ℕ) → k < n → forcingInput cells a ins outs k < ins
@@ -142,5 +142,5 @@ module _
     unfolding forcedRow
     forced-agree k h low =
         bytes-agree outs _ _ (entries k h) (forcing-agree k h) (λ o ho.
-        monitor-agree k (forcingInput cells a ins outs k) h low o ho
-        ∙ ap (λ (i : ℕ). monitorAt others b ins outs k i o) (forcing-agree k h))
+        breaker-agree k (forcingInput cells a ins outs k) h low o ho
+        ∙ ap (λ (i : ℕ). breakerAt others b ins outs k i o) (forcing-agree k h))

@@ -18,5 +18,5 @@ unfoldable pub forcedLength : ℕ → ℕ → ℕ
 forcedLength outs count = count * (3 + outs)
 
 -- where no monitor is named
-abbrev pub noMonitor : ℕ
-noMonitor = 255
+abbrev pub noBreaker : ℕ
+noBreaker = 255

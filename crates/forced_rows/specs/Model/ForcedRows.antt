@@ -9,7 +9,7 @@ use Rattle.records.specs.Model.Bounded.{least}
 use Rattle.records.specs.Model.Cells.{isBroken, brokenMonitor}
 use Rattle.records.specs.Model.Lists.{put}
 use Rattle.rounds.specs.Model.TableRounds.{cellAt, isIn, answered}
-use Rattle.forced_rows.specs.Meaning.ForcedBytes.{forcedBytes, noMonitor}
+use Rattle.forced_rows.specs.Meaning.ForcedBytes.{forcedBytes, noBreaker}
 
 -- the entries before round r: the states that it and later rounds dropped are in
 unfoldable pub beforeRound : ℕ → List ℕ → List ℕ
@@ -24,16 +24,16 @@ unfoldable pub forcingInput : List ℕ → List ℕ → ℕ → ℕ → ℕ → 
 forcingInput cells dropped ins outs k = cond (isIn dropped k) 0 (least ins (forcesAt cells dropped ins outs k))
 
 -- the monitor that breaks the step of a cell
-unfoldable pub monitorIn : ℕ → ℕ
-monitorIn cell = cond (isBroken cell) (brokenMonitor cell) noMonitor
+unfoldable pub breakerIn : ℕ → ℕ
+breakerIn cell = cond (isBroken cell) (brokenMonitor cell) noBreaker
 
 -- the monitor that output o breaks at input i of state k, if the state is one step from its end
-unfoldable pub monitorAt : List ℕ → List ℕ → ℕ → ℕ → ℕ → ℕ → ℕ → ℕ
-monitorAt cells dropped ins outs k i o =
-    cond (eqb (getD dropped k 0) 1) (monitorIn (getD cells (cellAt ins outs k i o) 0)) noMonitor
+unfoldable pub breakerAt : List ℕ → List ℕ → ℕ → ℕ → ℕ → ℕ → ℕ → ℕ
+breakerAt cells dropped ins outs k i o =
+    cond (eqb (getD dropped k 0) 1) (breakerIn (getD cells (cellAt ins outs k i o) 0)) noBreaker
 
 -- the bytes of state k
 unfoldable pub forcedRow : List ℕ → List ℕ → ℕ → ℕ → ℕ → List ℕ
 forcedRow cells dropped ins outs k =
     let i = forcingInput cells dropped ins outs k in
-    forcedBytes outs (getD dropped k 0) i (monitorAt cells dropped ins outs k i)
+    forcedBytes outs (getD dropped k 0) i (breakerAt cells dropped ins outs k i)

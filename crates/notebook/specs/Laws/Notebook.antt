@@ -3,7 +3,7 @@
 use mathlib.Core.Path.{refl}
 use mathlib.Core.List.{List, [], _∷_}
 use Rattle.sheet.specs.Meaning.Decoded.{encode}
-use Rattle.notebook.specs.Model.Sheets.{decodedA, sheetA, sheet3, sheet4, sheet5, sheet6, sheet7, sheet9, sheet10, idle, limitSheet, letterSheet, soonSheet}
+use Rattle.notebook.specs.Model.Sheets.{decodedA, sheetA, sheet3, sheet4, sheet5, sheet6, sheet7, sheet9, sheet10, idle, limitSheet, letterSheet, soonSheet, bothSheet}
 use Rattle.notebook.specs.Model.Row.{Row, is, are, ordered, AllHold, all-hold}
 use Rattle.notebook.specs.Model.Figures.{supervisorNumber, guardAnswer, forecastNumber, bestSums, leastSums, cardFront, forcedNumber, play, supervisor, guard, states, scores, outputs, deviationsShown}
 use Rattle.notebook.specs.Laws.Opened.{sheets, supervisors, guards, forecasts, plays, boards}
@@ -49,13 +49,22 @@ rows =
     ∷ is (supervisorNumber sheet3) 8
     ∷ is (guardAnswer sheet3) 8
     ∷ is (forecastNumber sheet3) 8
-    -- its play: input on from the start forces on, and then on again, where every answer breaks; A has none, for A is realizable
+    -- its play: input on from the start forces on, and then on again, where every answer breaks: off monitor 2, on monitor 0; A has
+    -- none, for A is realizable
     ∷ is (forcedNumber sheet3) 0
-    ∷ are (play sheet3) (2 ∷ 0 ∷ 1 ∷ 2 ∷ 0 ∷ 1 ∷ 1 ∷ 0 ∷ 1 ∷ 1 ∷ 0 ∷ 1 ∷ [])
+    ∷ are (play sheet3)
+    (2 ∷ 0 ∷ 1 ∷ 255 ∷ 255
+    ∷ 2 ∷ 0 ∷ 1 ∷ 255 ∷ 255
+    ∷ 1 ∷ 0 ∷ 1 ∷ 2 ∷ 0
+    ∷ 1 ∷ 0 ∷ 1 ∷ 2 ∷ 0
+    ∷ [])
     ∷ is (forcedNumber sheetA) 23
     -- input on breaks at once, input off one step later: the lowest input is the lowest of the soonest
     ∷ is (forcedNumber soonSheet) 0
-    ∷ are (play soonSheet) (1 ∷ 0 ∷ 1 ∷ 1 ∷ 0 ∷ 0 ∷ [])
+    ∷ are (play soonSheet) (1 ∷ 0 ∷ 1 ∷ 0 ∷ 0 ∷ 1 ∷ 0 ∷ 0 ∷ 0 ∷ 0 ∷ [])
+    -- where two monitors break at once, the lower one is named; the soft one before them counts
+    ∷ is (forcedNumber bothSheet) 0
+    ∷ are (play bothSheet) (1 ∷ 0 ∷ 1 ∷ 1 ∷ 1 ∷ 1 ∷ 0 ∷ 0 ∷ 1 ∷ 1 ∷ 1 ∷ 0 ∷ 0 ∷ 1 ∷ 1 ∷ [])
     -- P4: head alone, one line each way, on preferred: one state, mask 3, output 1
     ∷ is (supervisorNumber sheet4) 0
     ∷ is (guardAnswer sheet4) 0
@@ -124,9 +133,17 @@ rows =
     ∷ 5 ∷ 0 ∷ 18 ∷ 0 ∷ 1 ∷ 1 ∷ 1 ∷ 1 ∷ 1
     ∷ 5 ∷ 0 ∷ 18 ∷ 0 ∷ 0 ∷ 0 ∷ 0 ∷ 0 ∷ 0
     ∷ [])
-    -- so it is realizable, though 100 and 102 break at site line on with on proposed
+    -- so it is realizable, though 100 and 102 break at site line on with on proposed: off the limit, on the hard monitor
     ∷ is (forcedNumber limitSheet) 23
-    ∷ are (play limitSheet) (0 ∷ 0 ∷ 0 ∷ 0 ∷ 0 ∷ 0 ∷ 0 ∷ 0 ∷ 0 ∷ 1 ∷ 0 ∷ 3 ∷ 0 ∷ 0 ∷ 0 ∷ 0 ∷ 0 ∷ 0 ∷ 1 ∷ 0 ∷ 3 ∷ [])
+    ∷ are (play limitSheet)
+    (0 ∷ 0 ∷ 0 ∷ 255 ∷ 255
+    ∷ 0 ∷ 0 ∷ 0 ∷ 255 ∷ 255
+    ∷ 0 ∷ 0 ∷ 0 ∷ 255 ∷ 255
+    ∷ 1 ∷ 0 ∷ 3 ∷ 1 ∷ 0
+    ∷ 0 ∷ 0 ∷ 0 ∷ 255 ∷ 255
+    ∷ 0 ∷ 0 ∷ 0 ∷ 255 ∷ 255
+    ∷ 1 ∷ 0 ∷ 3 ∷ 1 ∷ 0
+    ∷ [])
     ∷ are (guard limitSheet)
     (6 ∷ 0 ∷ 16 ∷ 0 ∷ 1 ∷ 2 ∷ 1 ∷ 0 ∷ 4 ∷ 0
     ∷ 8 ∷ 0 ∷ 17 ∷ 0 ∷ 0 ∷ 1 ∷ 0 ∷ 1 ∷ 1 ∷ 2 ∷ 1 ∷ 2

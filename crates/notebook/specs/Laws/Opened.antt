@@ -1,7 +1,7 @@
 -- The definitions that the notebook's figures are computed by: a proof that unfolds one of these names unfolds all that it lists.
 -- Assumes nothing.
 use Rattle.records.specs.Meaning.Limits.{linesOk, horizonOk}
-use Rattle.records.specs.Model.Cells.{isBroken}
+use Rattle.records.specs.Model.Cells.{isBroken, brokenMonitor}
 use Rattle.records.specs.Meaning.Bounded.{all, any, sum, count}
 use Rattle.records.specs.Model.Bounded.{least, top}
 use Rattle.records.specs.Meaning.Lists.{tab, cat}
@@ -25,6 +25,7 @@ use Rattle.game.specs.Meaning.Proposal.{proposal, differs, deviates}
 use Rattle.product.specs.Meaning.Step.{siteLetter, nextState, accepts, shadowed, shadowMoved, sound, limitLetter, letterOf, monitorMoved, moved, advance, broken, firstTuple, line, equalLines, softReward, rewardBy, reward}
 use Rattle.product.specs.Model.Stages.{matchReward}
 use Rattle.product.specs.Model.States.{same}
+use Rattle.product.specs.Model.Outcome.{endedBy, outcomeOf, cellFor}
 use Rattle.product.specs.Model.ProductNumbering.{statesAfter, productStates, stateCount, stateOf, numberOf, cellOf}
 use Rattle.rounds.specs.Model.TableRounds.{cellAt, isIn, leadsIn, answered, stays, entryAfter, round, rounds, settled, maskOf}
 use Rattle.solve.specs.Model.Steps.{cellsOf, droppedOf}
@@ -50,7 +51,7 @@ use Rattle.game.specs.Model.Value.{value}
 use Rattle.game.specs.Model.Extreme.{bottom, valueBy}
 use Rattle.solve.specs.Model.Opening.{openingNumber}
 use Rattle.forced_rows.specs.Meaning.ForcedBytes.{forcedBytes, forcedLength}
-use Rattle.forced_rows.specs.Model.ForcedRows.{beforeRound, forcesAt, forcingInput, forcedRow}
+use Rattle.forced_rows.specs.Model.ForcedRows.{beforeRound, forcesAt, forcingInput, breakerIn, breakerAt, forcedRow}
 use Rattle.forced.specs.Model.ForcedOfSheet.{forcedOf, forcedSize, heldNumber}
 use Rattle.averages.specs.Meaning.Averages.{averageOf}
 use Rattle.card.specs.Model.Card.{averagesOf, cardEntry, cardEntryAt, lostEntries, lostCard, cardOf}
@@ -61,7 +62,7 @@ use Rattle.notebook.specs.Model.Figures.{cardFront, scoresOf, outputsFro
 
 -- lists and numbers
 unfoldable pub lists : Unit {0}
-unfolding all any sum top count tab cat put u16At linesOk horizonOk same tests test isOrdered isAbove
+unfolding all any least sum top count tab cat put u16At linesOk horizonOk same tests test isOrdered isAbove
 lists = tt
 
 -- a sheet's bytes, and how they are read
@@ -75,7 +76,7 @@ sheets = tt
 -- steps, product states, rounds and the supervisor table
 unfoldable pub supervisors : Unit {0}
 unfolding lists proposal differs siteLetter nextState accepts shadowed shadowMoved sound limitLetter letterOf monitorMoved moved advance
-    broken firstTuple
+    broken endedBy outcomeOf cellFor firstTuple
     explore visit met meet add find statesAfter productStates stateCount stateOf numberOf cellOf
     cellAt isBroken isIn leadsIn answered stays entryAfter round rounds settled maskOf
     cellsOf droppedOf keptFlag tableHead tableRow tableOf supervisorTable manyNumber lostNumber roomNumber tableNumber makingNumber
@@ -97,7 +98,8 @@ forecasts = tt
 
 -- how a break is forced
 unfoldable pub plays : Unit {0}
-unfolding supervisors dueNumber orderedNumber least forcedBytes forcedLength beforeRound forcesAt forcingInput forcedRow forcedOf forcedSize heldNumber
+unfolding supervisors dueNumber orderedNumber forcedBytes forcedLength beforeRound forcesAt forcingInput brokenMonitor breakerIn breakerAt
+    forcedRow forcedOf forcedSize heldNumber
 plays = tt
 
 -- load and step

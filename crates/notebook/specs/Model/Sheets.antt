@@ -114,6 +114,10 @@ letterSheet = encode (oneOutput 1 0 (settles ∷ []))
 abbrev pub soonSheet : List ℕ
 soonSheet = encode (oneOutput 1 0 (soonOver ∷ []))
 
+-- the same monitor twice, a wish before it
+abbrev pub bothSheet : List ℕ
+bothSheet = encode (oneOutput 1 0 (wish 3 (1 ∷ 0 ∷ 0 ∷ 1 ∷ []) ∷ soonOver ∷ soonOver ∷ []))
+
 -- a hard monitor of one state where there is no input line; its weight is to be 0
 abbrev pub idle : ℕ → Automaton
 idle weight = record { role = 0; weight = weight; start = 0; accept = 1 ∷ []; rows = (0 ∷ 0 ∷ []) ∷ [] }

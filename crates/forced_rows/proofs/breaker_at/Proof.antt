@@ -1,14 +1,14 @@
--- `forced_rows::monitor_at`: a state that is not one step from its end, and one that is. Assumes nothing.
+-- `forced_rows::breaker_at`: a state that is not one step from its end, and one that is. Assumes nothing.
 use mathlib.Core.Path.{_≡_, sym, ap, _∙_}
 use Prim.Native.Nat.{ℕ}
 use native.Mathlib.Omega.{arith}
 use lib.ListN.{getD}
 use borrow.Author.Needs.{needs}
 use Rattle.rounds.specs.Laws.CellPlaces.{CellLeads, in-row, leads-at}
-use Rattle.forced_rows.specs.Model.ForcedRows.{monitorIn}
-use Rattle.forced_rows.specs.Laws.ForcedRows.{monitor-one, monitor-else}
-use Rattle.forced_rows.proofs.monitor_at.Statement.{statement}
-use Rattle.forced_rows.proofs.monitor_at.Tie as tie
+use Rattle.forced_rows.specs.Model.ForcedRows.{breakerIn}
+use Rattle.forced_rows.specs.Laws.ForcedRows.{breaker-one, breaker-else}
+use Rattle.forced_rows.proofs.breaker_at.Statement.{statement}
+use Rattle.forced_rows.proofs.breaker_at.Tie as tie
 
 -- the place that the needs look back to
 abbrev entry : tie.After-shared-slice-known3 → tie.Start
@@ -36,39 +36,39 @@ shared-slice-read-if1 : tie.Need-shared-slice-read-if1
 shared-slice-read-if1 c = search needs
 
 returns : tie.Need-returns
-returns c = sym (monitor-else _ _ _ _ _ _ _ (far c))
+returns c = sym (breaker-else _ _ _ _ _ _ _ (far c))
 
 cell-at-requires : tie.Need-cell-at-requires
 cell-at-requires c κs =
     let p = entry (c .before) .pre in
     in-row (p .0) (omega arith) (p .1 .0 .state) (p .1 .1 .0) (p .1 .1 .1)
 
-mul-monitor-in : tie.Need-mul-monitor-in
-mul-monitor-in c = omega (arith, found c .within)
+mul-breaker-in : tie.Need-mul-breaker-in
+mul-breaker-in c = omega (arith, found c .within)
 
-shared-slice-read-monitor-in : tie.Need-shared-slice-read-monitor-in
-shared-slice-read-monitor-in c = found (c .before) .within
+shared-slice-read-breaker-in : tie.Need-shared-slice-read-breaker-in
+shared-slice-read-breaker-in c = found (c .before) .within
 
-monitor-in-requires : tie.Need-monitor-in-requires
-monitor-in-requires c κs = search needs
+breaker-in-requires : tie.Need-breaker-in-requires
+breaker-in-requires c κs = search needs
 
 returns-2 : tie.Need-returns-2
 returns-2 c =
     let at = c .before .before in
     let cells = entry (at .before .before) .args .cells .now in
-    c .monitor-in .ensures
-    ∙ ap (λ (x : ℕ). monitorIn (getD cells x 0)) (at .cell-at .ensures)
-    ∙ sym (monitor-one _ _ _ _ _ _ _ (near (at .before)))
+    c .breaker-in .ensures
+    ∙ ap (λ (x : ℕ). breakerIn (getD cells x 0)) (at .cell-at .ensures)
+    ∙ sym (breaker-one _ _ _ _ _ _ _ (near (at .before)))
 
-pub monitor-at-spec : {M : Type 1} → statement M
-monitor-at-spec =
+pub breaker-at-spec : {M : Type 1} → statement M
+breaker-at-spec =
     tie.close
     (tie.spec
     mul-if1
     shared-slice-read-if1
     returns
     cell-at-requires
-    mul-monitor-in
-    shared-slice-read-monitor-in
-    monitor-in-requires
+    mul-breaker-in
+    shared-slice-read-breaker-in
+    breaker-in-requires
     returns-2)
