@@ -9,11 +9,18 @@ use crate::{Product, Refusal, Sheet, STATES_MOST};
 
 /// The steps of a state from which no break can be forced.
 const NEVER: u16 = u16::MAX;
-/// The bytes of an entry: steps in two, then the input.
-const ENTRY: usize = 3;
+/// The byte that names no monitor.
+const UNNAMED: u8 = 255;
+/// The most outputs, of three lines.
+const OUTPUTS_MOST: usize = 8;
 
 /// The length of the longest play.
-pub const FORCED_BYTES_MOST: usize = ENTRY * STATES_MOST;
+pub const FORCED_BYTES_MOST: usize = forced_len(STATES_MOST, OUTPUTS_MOST);
+
+/// A play's length: for each state its steps in two bytes, the input, and a monitor for each output.
+const fn forced_len(count: usize, outputs: usize) -> usize {
+    count * (3 + outputs)
+}
 
 /// How a break is forced from a product state.
 #[derive(Clone, Copy, Debug, PartialEq, Eq)]
@@ -51,30 +58,46 @@ fn forces(product: &Product) -> Vec<Option<Force>> {
     steps.iter().enumerate().map(force).collect()
 }
 
-/// How a break is forced from each product state, in number order; nothing where the state is kept.
-/// Refused 23 where the start is.
-pub fn forced(sheet: &[u8]) -> Result<Vec<Option<Force>>, Refusal> {
-    let forces = forces(&Product::explore(&Sheet::parse(sheet)?)?);
+/// The product of a sheet and the force of each of its states. Refused 23 where the start is kept.
+fn solve(sheet: &[u8]) -> Result<(Product, Vec<Option<Force>>), Refusal> {
+    let product = Product::explore(&Sheet::parse(sheet)?)?;
+    let forces = forces(&product);
     match forces[0] {
-        Some(_) => Ok(forces),
+        Some(_) => Ok((product, forces)),
         None => Err(Refusal::Realizable),
     }
 }
 
-/// Writes the play of a sheet at the start of the result memory: three bytes for each product state,
-/// all 0 where it is kept.
+/// How a break is forced from each product state, in number order; nothing where the state is kept.
+/// Refused 23 where the start is.
+pub fn forced(sheet: &[u8]) -> Result<Vec<Option<Force>>, Refusal> {
+    Ok(solve(sheet)?.1)
+}
+
+/// The monitor that an output breaks at the input of a state one step from its end; elsewhere none is
+/// named.
+fn monitor(product: &Product, state: usize, force: Option<Force>, output: usize) -> Option<usize> {
+    let last = force.filter(|force| force.steps == 1)?;
+    product.edge(state, last.input.into(), output).broken_by()
+}
+
+/// Writes the play of a sheet at the start of the result memory: for each product state the steps and
+/// the input, 0 where it is kept, then by output the monitors, counted from 0 in the sheet.
 ///
 /// A refusal leaves the result memory as it was, and bytes past the play are never touched.
 pub fn make_forced(sheet: &[u8], result: &mut [u8]) -> Result<Made, Refusal> {
-    let forces = forced(sheet)?;
-    let length = ENTRY * forces.len();
+    let (product, forces) = solve(sheet)?;
+    let length = forced_len(product.count(), product.output_count());
     let mut out = room(result, length)?;
-    for force in &forces {
+    for (state, &force) in forces.iter().enumerate() {
         let (steps, input) = force.map_or((0, 0), |force| (force.steps, force.input));
         out.number(steps);
         out.byte(input);
+        for output in 0..product.output_count() {
+            out.byte(monitor(&product, state, force, output).map_or(UNNAMED, |j| j as u8));
+        }
     }
-    Ok(Made { length, states: forces.len() })
+    Ok(Made { length, states: product.count() })
 }
 
 /// The play of a sheet.

@@ -233,7 +233,22 @@ fn play(sheet: &[u8]) -> Vec<Option<(u16, u8)>> {
 fn p3_is_forced_in_two_steps() {
     let sheet = [sheet_a(), on_letters(0, 0, 4, 0b1101)].concat();
     assert_eq!(play(&sheet), [Some((2, 1)), Some((2, 1)), Some((1, 1)), Some((1, 1))]);
-    assert_eq!(forced_bytes(&sheet).unwrap(), [2, 0, 1, 2, 0, 1, 1, 0, 1, 1, 0, 1]);
+    // Closed breaks the third monitor, open the first; the soft one between them is counted.
+    let (first, second) = ([2, 0, 1, 255, 255], [1, 0, 1, 2, 0]);
+    assert_eq!(forced_bytes(&sheet).unwrap(), [first, first, second, second].concat());
+}
+
+/// Every step breaks the hard monitor, and a deviation the limit too: off is proposed, on breaks both.
+#[test]
+fn of_several_monitors_the_first_is_named() {
+    let hard = on_letters(0, 0, 2, 0b00);
+    let limit = monitor(2, 0, 0, &[1, 0], &[&[0, 0, 1, 1], &[1; 4]]);
+    let soft = on_letters(1, 1, 2, 0b00);
+    let play = |monitors: [&[u8]; 3]| {
+        forced_bytes(&[head(1, 0, 0, 0, &[0]), monitors.concat()].concat()).unwrap()
+    };
+    assert_eq!(play([&limit, &soft, &hard]), [1, 0, 0, 2, 0]);
+    assert_eq!(play([&soft, &hard, &limit]), [1, 0, 0, 1, 1]);
 }
 
 /// Input 0 leads to a state that breaks at the next step, input 1 breaks at once.
@@ -251,7 +266,8 @@ fn a_kept_state_has_no_steps_and_no_input() {
     let hard = monitor(0, 0, 0, &[0, 1, 1, 1], &rows);
     let sheet = [head(0, 1, 0, 0, &[0]), hard].concat();
     assert_eq!(play(&sheet), [Some((3, 1)), None, Some((2, 1)), Some((1, 1))]);
-    assert_eq!(forced_bytes(&sheet).unwrap(), [3, 0, 1, 0, 0, 0, 2, 0, 1, 1, 0, 1]);
+    let rows = [[3, 0, 1, 255, 255], [0, 0, 0, 255, 255], [2, 0, 1, 255, 255], [1, 0, 1, 0, 0]];
+    assert_eq!(forced_bytes(&sheet).unwrap(), rows.concat());
 }
 
 #[test]
@@ -271,12 +287,12 @@ fn what_is_realizable_is_not_forced() {
 #[test]
 fn result_memory_one_byte_short_of_a_play() {
     let sheet = [sheet_a(), on_letters(0, 0, 4, 0b1101)].concat();
-    let mut result = [0xA5; 11];
+    let mut result = [0xA5; 19];
     assert_eq!(make_forced(&sheet, &mut result), Err(Refusal::ShortResult));
-    assert_eq!(result, [0xA5; 11]);
-    let mut result = [0xA5; 13];
+    assert_eq!(result, [0xA5; 19]);
+    let mut result = [0xA5; 21];
     let made = make_forced(&sheet, &mut result).unwrap();
-    assert_eq!((made.length, made.states, result[12]), (12, 4, 0xA5));
+    assert_eq!((made.length, made.states, result[20]), (20, 4, 0xA5));
 }
 
 #[test]
