@@ -15,11 +15,12 @@ mod steps;
 use reference::{Made, Prospect, Refusal, Sheet};
 
 use crate::product::{Product, CELLS};
+use crate::steps::Stepper;
 
 /// A sheet's product and which of its states are kept; refused 1 to 8.
 fn solve(bytes: &[u8]) -> Result<(Sheet, Product, [bool; CELLS]), Refusal> {
     let sheet = Sheet::parse(bytes)?;
-    let product = Product::explore(&sheet)?;
+    let product = Product::explore(&Stepper::new(&sheet))?;
     let kept = product.kept();
     if !kept[0] {
         return Err(Refusal::Unrealizable);
@@ -77,7 +78,9 @@ pub fn make_guard(sheet: &[u8], result: &mut [u8]) -> Result<Made, Refusal> {
 
 /// Writes the play that beats a sheet at the start of the result memory, as the reference does.
 pub fn make_forced(sheet: &[u8], result: &mut [u8]) -> Result<Made, Refusal> {
-    forced::make(&Product::explore(&Sheet::parse(sheet)?)?, result)
+    let sheet = Sheet::parse(sheet)?;
+    let stepper = Stepper::new(&sheet);
+    forced::make(&stepper, &Product::explore(&stepper)?, result)
 }
 
 /// The prospect of each product state of a sheet, as the reference tells it.
