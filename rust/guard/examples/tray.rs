@@ -44,14 +44,17 @@ fn main() -> Result<(), Refusal> {
     beaten(&mut work)
 }
 
-/// The lock that must be open with a tray: which trays force it to be open twice, or closed.
+/// The lock that must be open with a tray: which trays force a break, and at the last what closed and open
+/// break.
 fn beaten(work: &mut Work) -> Result<(), Refusal> {
     let sheet = Sheet::controller(1, 1)
         .hard(3, |state| state < 2, never_twice)
         .hard(2, |state| state == 0, |_, letter| u8::from(letter == 1))
         .to_bytes();
-    for (state, force) in Forced::make(&sheet, work)?.iter().enumerate() {
-        println!("product state {state}: {force:?}");
+    let forced = Forced::make(&sheet, work)?;
+    for (state, force) in forced.iter().enumerate() {
+        let broken = [0, 1].map(|output| forced.broken_by(state, output));
+        println!("product state {state}: {force:?}, broken by {broken:?}");
     }
     Ok(())
 }

@@ -26,6 +26,9 @@ pub const CARD_WORDS: usize = 1 + 2 * STATES_MOST;
 /// bits.
 pub const LOST: u64 = u64::MAX;
 
+/// The byte of a play that names no monitor: a sheet has at most six.
+pub const NO_MONITOR: u8 = u8::MAX;
+
 /// Declares the library's functions, and where the library was not found their stand-ins.
 macro_rules! library {
     ($(fn $name:ident($($argument:ident: $type:ty),* $(,)?) -> $answer:ty;)*) => {

@@ -6,7 +6,7 @@
 //! the table that the board runs by: for each state and input the output and the next state.
 //! A [`Board`] loads such a table and answers one input after another. [`Forecast::make`] tells how
 //! well each state can still do, and where no guard can keep a sheet, [`Forced::make`] by which inputs
-//! it is beaten.
+//! it is beaten, and what is broken then.
 //!
 //! The work is done by functions that were proved to meet their contracts, linked as a static
 //! library; all that this crate adds is types. What is unsafe is in the module [`calls`], where
@@ -66,6 +66,9 @@
 //! assert_eq!(Guard::make(&too_much, &mut work), Err(Refusal::Unrealizable));
 //! let forced = Forced::make(&too_much, &mut work)?;
 //! assert_eq!(forced.get(0), Some(Force { steps: 2, input: 1 }));
+//! assert_eq!(forced.get(1), Some(Force { steps: 1, input: 1 }));
+//! assert_eq!(forced.broken_by(1, 0), Some(1)); // then off breaks the second monitor,
+//! assert_eq!(forced.broken_by(1, 1), Some(0)); // and on the first
 //! # Ok::<(), Refusal>(())
 //! ```
 

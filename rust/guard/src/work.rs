@@ -1,6 +1,7 @@
-// Product states, letters and inputs at most, and the buckets and forks of the tuples' index: every size here is made from these.
+// Product states, inputs, outputs and letters at most, and the buckets and forks of the tuples' index: every size here is made from these.
 pub(crate) const STATES_MOST: usize = 256;
 pub(crate) const INPUTS_MOST: usize = 16;
+pub(crate) const OUTPUTS_MOST: usize = 8;
 const LETTERS_MOST: usize = 64;
 const BUCKETS: usize = 521;
 const FORKS: usize = 4;
