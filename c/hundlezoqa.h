@@ -50,7 +50,7 @@ extern "C" {
 
 #define HZ_SUPERVISOR_BYTES_MOST 5385 /* a supervisor table */
 #define HZ_GUARD_BYTES_MOST 9226      /* a guard table */
-#define HZ_FORCED_BYTES_MOST 768      /* a play */
+#define HZ_FORCED_BYTES_MOST 2816     /* a play */
 #define HZ_LISTING_BYTES_MOST 25897   /* a listing */
 
 /* Work memory: the least lengths, in elements. The first three are lent to every maker, and are all that the supervisor's
@@ -81,6 +81,10 @@ extern "C" {
 
 #define HZ_CARD_WORDS 513
 #define HZ_LOST UINT64_MAX
+
+/* The byte of a play that names no monitor. */
+
+#define HZ_NO_MONITOR 255
 
 /* A board is 16 bytes, numbers little-endian. All zero is an empty board; so is any other whose fields do not fit
  * together, and a call never needs a board to be anything.
@@ -143,10 +147,16 @@ uint32_t hz_forecast(const uint8_t *sheet, size_t sheet_len,
                      uint64_t *lows, size_t lows_len,
                      uint64_t *card, size_t card_len);
 
-/* Makes the play that beats an unrealizable sheet: by which inputs a break is forced, whatever the outputs are. It has three
- * bytes for each product state, numbered as in the supervisor table: in two, little-endian, the least number of steps in
- * which a hard monitor or limit can be forced to break, the broken step counting as one; then the lowest input that does
- * so in that number. All three are 0 where the state is kept: its inputs can be answered for ever.
+/* Makes the play that beats an unrealizable sheet: by which inputs a break is forced, whatever the outputs are. It has an entry
+ * of 3 + 2^outputs bytes for each product state, numbered as in the supervisor table:
+ *
+ *   0, 1  little-endian, the least number of steps in which a hard monitor or limit can be forced to break, the broken step
+ *         counting as one
+ *   2     the lowest input that does so in that number
+ *   3..   for each output ascending: where the number is 1, the hard monitor or limit that this output breaks at that input, of
+ *         several the first, counted from 0 in the sheet, soft monitors too; elsewhere HZ_NO_MONITOR
+ *
+ * Steps and input are 0 where the state is kept: its inputs can be answered for ever.
  *
  * figures_len MUST be at least HZ_FIGURES.
  * HZ_OK: figures[0] is the play's length in bytes, figures[1] its number of states; the rest of `result` is as it was.

@@ -1,7 +1,7 @@
 /* A tray lock: one line in (a tray is there), one line out (open). It is never open twice running, and open with a tray
  * if that can be. Forecasts how well each of its states can do, makes the guard of this sheet, lists it, and runs it on a
- * board; then a sheet that asks for too much is refused, and the play says by which trays it is beaten. All memory is
- * static. c/README.md says how to build it. */
+ * board; then a sheet that asks for too much is refused, and the play says by which trays it is beaten, and what is broken
+ * then. All memory is static. c/README.md says how to build it. */
 
 #include <stdint.h>
 #include <stdio.h>
@@ -10,6 +10,9 @@
 #include "hundlezoqa.h"
 
 #define LENGTH(array) (sizeof(array) / sizeof((array)[0]))
+
+/* An entry of the play: steps in two bytes, the input, and a monitor for closed and one for open. */
+#define ENTRY 5
 
 /* sheets/A.hex */
 static const uint8_t sheet[] = {
@@ -102,10 +105,13 @@ static uint32_t forced(void)
     answer = hz_forced(too_much, LENGTH(too_much), play, LENGTH(play), tuples, LENGTH(tuples), cells, LENGTH(cells),
                        dropped, LENGTH(dropped), figures, LENGTH(figures));
     for (k = 0; k < figures[1]; k++) { /* refused: none */
-        const uint8_t *entry = play + 3 * k;
+        const uint8_t *entry = play + ENTRY * k;
         unsigned least = entry[0] | (unsigned)entry[1] << 8;
         if (least == 0)
             printf("product state %lu: kept\n", (unsigned long)k);
+        else if (least == 1)
+            printf("product state %lu: steps 1, tray %d; closed breaks monitor %d, open breaks monitor %d\n", (unsigned long)k,
+                   entry[2], entry[3], entry[4]);
         else
             printf("product state %lu: steps %u, tray %d\n", (unsigned long)k, least, entry[2]);
     }

@@ -23,7 +23,7 @@ fn constant(name: &str) -> String {
 }
 
 /// Where the types of Rattle's that have sizes are.
-const TYPES: [(&str, &str); 8] = [
+const TYPES: [(&str, &str); 9] = [
     ("Limits", "crates/records/src/limits.rt"),
     ("Index", "crates/states/src/index.rt"),
     ("Supervisor", "crates/supervisor/src/make.rt"),
@@ -31,6 +31,7 @@ const TYPES: [(&str, &str); 8] = [
     ("Forecast", "crates/forecast/src/make.rt"),
     ("Forcing", "crates/forced/src/make.rt"),
     ("CardWords", "crates/card_words/src/lib.rt"),
+    ("Unnamed", "crates/forced_rows/src/lib.rt"),
     ("Report", "crates/report/src/lib.rt"),
 ];
 
@@ -80,9 +81,10 @@ fn defined() -> BTreeMap<String, usize> {
 }
 
 #[test]
-fn what_is_longest_is_rattle_s() {
+fn lengths_and_marks_are_rattle_s() {
     assert_eq!(Guard::LISTING_BYTES_MOST, rattle("Report::TEXT"));
     assert_eq!(calls::CARD_WORDS, rattle("CardWords::LENGTH"));
+    assert_eq!(usize::from(calls::NO_MONITOR), rattle("Unnamed::BYTE"));
 }
 
 /// A length of work memory for each constant of Rattle's makers, and no other.
@@ -126,6 +128,7 @@ fn every_number_and_length_is_the_wrapper_s() {
         ("HZ_FIGURES", calls::FIGURES),
         ("HZ_CARD_WORDS", calls::CARD_WORDS),
         ("HZ_LOST", calls::LOST as usize),
+        ("HZ_NO_MONITOR", calls::NO_MONITOR.into()),
         ("HZ_BOARD_BYTES", calls::BOARD_BYTES),
     ]
     .map(|(name, value)| (name.to_string(), value))

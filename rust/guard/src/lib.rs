@@ -66,9 +66,9 @@
 //! assert_eq!(Guard::make(&too_much, &mut work), Err(Refusal::Unrealizable));
 //! let forced = Forced::make(&too_much, &mut work)?;
 //! assert_eq!(forced.get(0), Some(Force { steps: 2, input: 1 }));
-//! assert_eq!(forced.get(1), Some(Force { steps: 1, input: 1 }));
-//! assert_eq!(forced.broken_by(1, 0), Some(1)); // then off breaks the second monitor,
-//! assert_eq!(forced.broken_by(1, 1), Some(0)); // and on the first
+//! assert_eq!(forced.get(2), Some(Force { steps: 1, input: 1 })); // it was on a step ago:
+//! assert_eq!(forced.broken_by(2, 0), Some(1)); // off breaks the second monitor,
+//! assert_eq!(forced.broken_by(2, 1), Some(0)); // on the first
 //! # Ok::<(), Refusal>(())
 //! ```
 
