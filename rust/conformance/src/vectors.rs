@@ -10,7 +10,7 @@ use reference::Board;
 use crate::Subject;
 
 /// The present level: the base is 0, level k knows the change requests N1 to Nk.
-pub const LEVEL: u32 = 2;
+pub const LEVEL: u32 = 3;
 
 /// Every kind of line that the present level has, by its letter. The next level raises [`LEVEL`],
 /// adds its kinds here, and to [`Subject`] the calls that they compare.
@@ -374,9 +374,10 @@ mod tests {
     /// Best and least 3 and 0 in two states, 1.5 in the others.
     const CARD_OF_A: &str = " 4008000000000000:0000000000000000 4008000000000000:0000000000000000 \
                              3ff8000000000000:3ff8000000000000 3ff8000000000000:3ff8000000000000";
-    /// A monitor more, with which A is refused 8 and beaten by two inputs on running.
+    /// A monitor more, with which A is refused 8 and beaten by two inputs on running: at the second, off
+    /// breaks monitor 2 and on monitor 0.
     const ON_AT_ON: &str = "0e0002000000020000010100010101000101";
-    const PLAY: &str = "020001020001010001010001";
+    const PLAY: &str = "020001ffff020001ffff01000102000100010200";
     const EMPTY: &str = "0,0,0,0,0,0,0,0";
 
     fn of(line: &str) -> Outcome {
@@ -409,9 +410,9 @@ mod tests {
             format!("C {LEVEL} {A} 0 4{CARD_OF_A}"),
             format!("F {LEVEL} - 0 2 -"),
             format!("F {LEVEL} {A} 0 23 -"),
-            format!("F {LEVEL} {A}{ON_AT_ON} 12 0 {PLAY}"),
+            format!("F {LEVEL} {A}{ON_AT_ON} 20 0 {PLAY}"),
             format!("F {LEVEL} {A}{ON_AT_ON} 30000 0 {PLAY}"),
-            format!("F {LEVEL} {A}{ON_AT_ON} 11 9 -"),
+            format!("F {LEVEL} {A}{ON_AT_ON} 19 9 -"),
             format!("O {LEVEL} {EMPTY} unload 7 20 {EMPTY}"),
             format!("B {LEVEL} {EMPTY} - 255 20 {EMPTY} 0"),
         ];
@@ -438,11 +439,14 @@ mod tests {
             format!("C {LEVEL} {A} 0 4{}", CARD_OF_A.replacen(":0", ":8", 1)),
             format!("F {LEVEL} - 0 0 -"),
             format!("F {LEVEL} {A} 0 8 -"),
-            format!("F {LEVEL} {A}{ON_AT_ON} 12 8 -"),
-            format!("F {LEVEL} {A}{ON_AT_ON} 12 0 {}", &PLAY[6..]),
-            format!("F {LEVEL} {A}{ON_AT_ON} 12 0 {}", PLAY.replacen("01", "00", 1)),
-            format!("F {LEVEL} {A}{ON_AT_ON} 12 0 {PLAY}000000"),
-            format!("F {LEVEL} {A}{ON_AT_ON} 11 0 {PLAY}"),
+            format!("F {LEVEL} {A}{ON_AT_ON} 20 8 -"),
+            format!("F {LEVEL} {A}{ON_AT_ON} 20 0 {}", &PLAY[10..]),
+            format!("F {LEVEL} {A}{ON_AT_ON} 20 0 {}", PLAY.replacen("01", "00", 1)),
+            format!("F {LEVEL} {A}{ON_AT_ON} 20 0 {}02", &PLAY[..38]),
+            format!("F {LEVEL} {A}{ON_AT_ON} 20 0 {}", PLAY.replacen("ff", "02", 1)),
+            format!("F {LEVEL} {A}{ON_AT_ON} 20 0 {}", PLAY.replace("ff", "")),
+            format!("F {LEVEL} {A}{ON_AT_ON} 20 0 {PLAY}000000ffff"),
+            format!("F {LEVEL} {A}{ON_AT_ON} 19 0 {PLAY}"),
             format!("O {LEVEL} {EMPTY} unload 7 0 {EMPTY}"),
             format!("B {LEVEL} {EMPTY} - 255 20 1,0,0,0,0,0,0,0 0"),
             format!("Q {LEVEL} - - - {EMPTY}"),
