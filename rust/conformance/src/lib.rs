@@ -2,10 +2,12 @@
 //!
 //! [`vectors`] runs a file of expected answers against a [`Subject`]; [`generate`] makes sheets,
 //! tables and boards, sound and damaged, for the property tests in `tests/`, [`work`] the memory that
-//! the makers are lent there, and [`making`] compares one call of a maker.
+//! the makers are lent there, [`making`] compares one call of a maker, and [`monitors`] tells what a step
+//! breaks.
 
 pub mod generate;
 pub mod making;
+pub mod monitors;
 pub mod random;
 pub mod subject;
 pub mod vectors;

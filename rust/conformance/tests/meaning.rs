@@ -1,12 +1,13 @@
 //! The reference against the paper's own words, on small sheets: which outputs are allowed by
 //! ways of answering n further inputs, the guard's outputs by all plans written out, the forecast by
 //! all ways of answering H inputs, each with what it earns added over all words, and the play by all
-//! ways of giving n inputs, each against all answers. Neither rounds nor values play a part.
+//! ways of giving n inputs, each against all answers; and which monitor breaks a step, by the monitors
+//! one by one. Neither rounds nor values play a part.
 
 use std::collections::HashMap;
 
 use conformance::generate::{self, Shape};
-use conformance::{cases, seed, Random};
+use conformance::{cases, monitors, seed, Random};
 use guard::sheet::{Mode, Role};
 use reference::{Averages, Board, Force, Kept, Product, Prospect, Refusal, Sheet, Tuple};
 
@@ -39,7 +40,7 @@ impl Game<'_> {
         let survived = self.inputs().all(|input| {
             self.outputs().any(|output| {
                 let step = self.sheet.step(&at, input, output);
-                step.is_some_and(|(next, _)| self.survives(next, n - 1))
+                step.is_ok_and(|(next, _)| self.survives(next, n - 1))
             })
         });
         self.known.insert((at, n), survived);
@@ -48,7 +49,7 @@ impl Game<'_> {
 
     /// The step of an allowed output, and its reward.
     fn allowed(&mut self, at: Tuple, input: u8, output: u8) -> Option<(Tuple, u64)> {
-        let (next, reward) = self.sheet.step(&at, input, output)?;
+        let (next, reward) = self.sheet.step(&at, input, output).ok()?;
         self.survives(next, STATES).then_some((next, u64::from(reward)))
     }
 
@@ -181,7 +182,7 @@ impl Game<'_> {
             let (mut here, mut first, mut number) = (at, 0, 0);
             (0..n).any(|step| {
                 let output = answers / outputs.pow(step) % outputs;
-                let Some((next, _)) = self.sheet.step(&here, way[first + number], output as u8)
+                let Ok((next, _)) = self.sheet.step(&here, way[first + number], output as u8)
                 else {
                     return true;
                 };
@@ -284,6 +285,32 @@ fn the_reference_follows_the_paper() {
     }
     println!("{accepted} accepted, {looking} of them looking ahead, {unrealizable} unrealizable");
     assert!(accepted > 100 && looking > 40 && unrealizable > 40, "too few sheets of a sort");
+}
+
+/// A step is broken exactly if a hard monitor or limit does not accept after it, and says the first.
+#[test]
+fn a_broken_step_says_the_first_monitor_that_broke() {
+    // Steps broken by none, by one and by several.
+    let mut seen = [0; 3];
+    for case in 0..cases(1_000) {
+        let bytes = generate::sheet(&mut Random::new(seed(), case));
+        let sheet = Sheet::parse(&bytes).expect("in bounds");
+        let Ok(product) = Product::explore(&sheet) else { continue };
+        for state in 0..product.count() {
+            let at = product.tuple(state);
+            for (letter, edge) in product.edges_of(state).iter().enumerate() {
+                let input = (letter % sheet.input_count()) as u8;
+                let output = (letter >> sheet.inputs) as u8;
+                let broken = monitors::broken(&sheet, at, input, output);
+                let first = broken.first().copied();
+                assert_eq!(sheet.step(at, input, output).err(), first, "case {case}: {bytes:02x?}");
+                assert_eq!((edge.broken_by(), edge.next().is_none()), (first, first.is_some()));
+                seen[broken.len().min(2)] += 1;
+            }
+        }
+    }
+    println!("steps broken by none, by one and by several monitors: {seen:?}");
+    assert!(seen.iter().all(|&steps| steps > 1_000), "too few of a sort");
 }
 
 #[test]

@@ -76,13 +76,20 @@ fn forecasts_are_read_as_they_are_meant() {
     }
 }
 
-fn check_forced(made: &Forced, found: &[Option<reference::Force>]) {
+fn check_forced(made: &Forced, product: &Product, found: &[Option<reference::Force>]) {
     assert_eq!((made.states(), made.get(made.states())), (found.len(), None));
     assert_eq!(made.iter().len(), found.len());
     for (state, (force, &found)) in made.iter().zip(found).enumerate() {
         assert_eq!(force.map(|f| (f.steps, f.input)), found.map(|f| (f.steps, f.input)));
         assert_eq!(made.get(state), force);
+        for output in 0..=u8::MAX {
+            let last =
+                found.filter(|f| f.steps == 1 && usize::from(output) < product.output_count());
+            let edge = last.map(|f| product.edge(state, f.input.into(), output.into()));
+            assert_eq!(made.broken_by(state, output), edge.and_then(|edge| edge.broken_by()));
+        }
     }
+    assert_eq!(made.broken_by(made.states(), 0), None);
 }
 
 #[test]
@@ -95,7 +102,8 @@ fn plays_are_read_as_they_are_meant() {
         match reference::forced(&bytes) {
             Ok(found) => {
                 let made = made.expect("lost");
-                check_forced(&made, &found);
+                let sheet = Sheet::parse(&bytes).expect("lost");
+                check_forced(&made, &Product::explore(&sheet).expect("lost"), &found);
                 assert_eq!(Ok(made.as_bytes()), reference::forced_bytes(&bytes).as_deref());
             }
             Err(refusal) => refused(made, refusal.number()),
