@@ -4,31 +4,27 @@ mod common;
 
 use std::collections::BTreeMap;
 
-use common::{guard, hexadecimal, input_name};
+use common::{guard, hexadecimal, input_name, Play};
 use conformance::{cases, generate, seed, Random};
-use guard::{Forced, Guard, Refusal, Supervisor, Work};
+use guard::{Guard, Refusal, Supervisor, Work};
 use reference::Sheet;
 
-/// What is printed beside a refusal: the reference's place, or the library's steps and input.
-fn detail(bytes: &[u8], refusal: Refusal, work: &mut Work) -> String {
-    let sheet = match Sheet::read(bytes) {
-        Ok(sheet) => sheet,
-        Err(fault) => {
-            let monitor = match fault.refusal.number() {
-                4 | 5 => format!(" (monitor {})", fault.record - 1),
-                _ => String::new(),
-            };
-            let place = format!("record {}{monitor}, byte {}", fault.record, fault.byte);
-            return format!("  {place}: {}\n", fault.what);
-        }
-    };
+/// What is printed beside a refusal: the reference's place, or how the sheet is beaten.
+fn detail(bytes: &[u8], refusal: Refusal) -> String {
+    if let Err(fault) = Sheet::read(bytes) {
+        let monitor = match fault.refusal.number() {
+            4 | 5 => format!(" (monitor {})", fault.record - 1),
+            _ => String::new(),
+        };
+        let place = format!("record {}{monitor}, byte {}", fault.record, fault.byte);
+        return format!("  {place}: {}\n", fault.what);
+    }
     if refusal != Refusal::Unrealizable {
         return String::new();
     }
-    let force = Forced::make(bytes, work).expect("lost").get(0).expect("lost");
-    let steps = if force.steps == 1 { "1 step".into() } else { format!("{} steps", force.steps) };
-    let input = input_name(&sheet, force.input);
-    format!("  a break is forced in {steps}, first input {input}; guard forced tells the play\n")
+    let play = Play::of(bytes);
+    let input = input_name(&play.sheet, play.force(0).input);
+    format!("  {}, first input {input}; guard forced tells the play\n", play.told())
 }
 
 /// What is printed of a sheet, from the library's answers and the reference's place.
@@ -37,7 +33,7 @@ fn expected(bytes: &[u8], work: &mut Work) -> (u32, String) {
     let (supervisor, guard) = match made {
         Ok(made) => made,
         Err(refusal) => {
-            let detail = detail(bytes, refusal, work);
+            let detail = detail(bytes, refusal);
             return (refusal.number(), format!("standard input: {refusal}\n{detail}"));
         }
     };

@@ -100,7 +100,7 @@ fn the_plays_are_as_told() {
     let document = std::fs::read_to_string(repository("docs/SHEETS.md")).expect("there");
     let blocks = blocks(section(&document, "## When something is wrong"));
     let file = sheet("P3.sheet");
-    for (command, begin) in [("check", "sheets/P3.sheet: refused"), ("forced", "a break is")] {
+    for (command, begin) in [("check", "sheets/P3.sheet: refused"), ("forced", "a break of")] {
         let shown = blocks.iter().find(|block| block.starts_with(begin)).expect("it is shown");
         let told = guard(&[command, &file], b"").text().replace(&file, "sheets/P3.sheet");
         assert_eq!(shown.trim_end(), told.trim_end(), "{command}");

@@ -3,61 +3,34 @@
 
 mod common;
 
-use common::{guard, hexadecimal, input_name, monitors, setting, sheet};
+use common::{guard, hexadecimal, input_name, monitor_name, monitors, setting, sheet, steps, Play};
 use conformance::{cases, generate, seed, Random};
 use guard::{Forced, Work};
-use reference::{Force, Mode, Product, Sheet};
+use reference::Mode;
 use workbench::source::Source;
 use workbench::states::States;
 
-fn steps(count: u16) -> String {
-    match count {
-        1 => "1 step".to_string(),
-        _ => format!("{count} steps"),
-    }
-}
-
 /// What is printed of a state of the play.
-fn turn(sheet: &Sheet, product: &Product, forces: &[Option<Force>], state: usize) -> String {
+fn turn(play: &Play, state: usize) -> String {
+    let sheet = &play.sheet;
     let left = |state: usize| {
-        let force = forces[state].expect("the play comes to no kept state");
+        let force = play.force(state);
         format!("{} left, input {}", steps(force.steps), input_name(sheet, force.input))
     };
-    let names = monitors(sheet, product.tuple(state));
+    let names = monitors(sheet, play.product.tuple(state));
     let mut text = format!("state {state}{names}\n  {}\n", left(state));
-    let after = answers(product, forces, state);
-    if after.iter().all(Option::is_none) {
-        return text + "    every output is broken\n";
-    }
+    let answers = play.answers(state);
     let outputs: Vec<String> =
-        (0..after.len()).map(|output| setting("out", sheet.outputs, output as u8)).collect();
+        (0..answers.len()).map(|output| setting("out", sheet.outputs, output as u8)).collect();
     let width = outputs.iter().map(String::len).max().unwrap();
-    for (output, next) in outputs.iter().zip(after) {
-        let leads = next.map(|next| format!("state {next}: {}", left(next)));
-        text += &format!("    {output:width$}  {}\n", leads.unwrap_or("broken".to_string()));
+    for (output, answer) in outputs.iter().zip(answers) {
+        let leads = match answer {
+            Ok(next) => format!("state {next}: {}", left(next)),
+            Err(monitor) => format!("broken by {}", monitor_name(sheet, monitor)),
+        };
+        text += &format!("    {output:width$}  {leads}\n");
     }
     text
-}
-
-/// The states after each output to the input that is given in a state; nothing where it is broken.
-fn answers(product: &Product, forces: &[Option<Force>], state: usize) -> Vec<Option<usize>> {
-    let input = forces[state].expect("lost").input;
-    let next = |output| product.edge(state, input.into(), output).next();
-    (0..product.output_count()).map(next).collect()
-}
-
-/// The states that the play comes to, as first met.
-fn reached(product: &Product, forces: &[Option<Force>]) -> Vec<usize> {
-    let mut found = vec![0];
-    for place in 0.. {
-        let Some(&state) = found.get(place) else { break };
-        for next in answers(product, forces, state).into_iter().flatten() {
-            if !found.contains(&next) {
-                found.push(next);
-            }
-        }
-    }
-    found
 }
 
 #[test]
@@ -66,18 +39,15 @@ fn plays_are_told_whole() {
     let (mut shields, mut long, mut parts) = (0, 0, 0);
     for case in 0..cases(1_000) {
         let bytes = generate::lost_sheet(&mut Random::new(seed(), case));
-        let forces = reference::forced(&bytes).expect("lost");
-        let sheet = Sheet::parse(&bytes).expect("in bounds");
-        let product = Product::explore(&sheet).expect("few states");
-        let play = reached(&product, &forces);
-        let turns: String = play.iter().map(|&s| turn(&sheet, &product, &forces, s)).collect();
-        let first = steps(forces[0].expect("lost").steps);
+        let play = Play::of(&bytes);
+        let reached = play.reached();
+        let turns: String = reached.iter().map(|&state| turn(&play, state)).collect();
         let done = guard(&["forced", "-"], hexadecimal(&bytes).as_bytes());
         assert_eq!((done.status, done.err.as_str()), (0, ""), "case {case}");
-        assert_eq!(done.text(), format!("a break is forced in {first}\n{turns}"), "case {case}");
-        shields += usize::from(sheet.mode == Mode::Shield);
-        long += usize::from(play.len() > 3);
-        parts += usize::from(play.len() < product.count());
+        assert_eq!(done.text(), format!("{}\n{turns}", play.told()), "case {case}");
+        shields += usize::from(play.sheet.mode == Mode::Shield);
+        long += usize::from(reached.len() > 3);
+        parts += usize::from(reached.len() < play.product.count());
     }
     println!("{shields} shields, {long} of four states or more, {parts} that leave states out");
     assert!(shields > 20 && long > 20 && parts > 20, "too few of a sort");
@@ -109,14 +79,15 @@ limit never_deviates
 
 /// Its play.
 const OPENS_TWICE: &str = "\
-a break is forced in 2 steps
+a break of never_open_twice or never_deviates is forced in 2 steps
 state 0: never_open_twice closed, never_deviates agreed; proposal never_open_twice closed
   2 steps left, input !tray / open
-    !open  broken
+    !open  broken by never_deviates
     open   state 1: 1 step left, input !tray / open
 state 1: never_open_twice once, never_deviates agreed; proposal never_open_twice once
   1 step left, input !tray / open
-    every output is broken
+    !open  broken by never_deviates
+    open   broken by never_open_twice
 ";
 
 /// Names are the text's; an input has site and proposal.
@@ -125,10 +96,10 @@ state 1: never_open_twice once, never_deviates agreed; proposal never_open_twice
 fn a_shield_s_play_has_site_and_proposal() {
     let done = guard(&["forced", "-"], NEVER_DEVIATES.as_bytes());
     assert_eq!((done.text().as_str(), done.status), (OPENS_TWICE, 0));
-    let line =
-        "a break is forced in 2 steps, first input !tray / open; guard forced tells the play";
+    let first = OPENS_TWICE.lines().next().expect("a line");
+    let line = format!("  {first}, first input !tray / open; guard forced tells the play");
     let done = guard(&["check", "-"], NEVER_DEVIATES.as_bytes());
-    assert_eq!((done.text().lines().nth(1), done.status), (Some(&*format!("  {line}")), 1));
+    assert_eq!((done.text().lines().nth(1), done.status), (Some(line.as_str()), 1));
 }
 
 /// Three clients request; whichever is served, the other two do so again.
@@ -138,25 +109,26 @@ fn a_play_goes_on_after_each_answer() {
     let text = guard(&["forced", &sheet("arbiter_tight.sheet")], b"").text();
     let indented = |line: &&str| line.starts_with(' ');
     let lines: Vec<&str> = text.lines().filter(indented).map(str::trim).collect();
-    let last = "every output is broken";
     let play = [
         "2 steps left, input req1 req2 req3",
-        "!ack1 !ack2 !ack3  broken",
+        "!ack1 !ack2 !ack3  broken by no_loss",
         "ack1 !ack2 !ack3   state 3: 1 step left, input !req1 req2 req3",
         "!ack1 ack2 !ack3   state 5: 1 step left, input req1 !req2 req3",
-        "ack1 ack2 !ack3    broken",
+        "ack1 ack2 !ack3    broken by exclusion",
         "!ack1 !ack2 ack3   state 6: 1 step left, input req1 req2 !req3",
-        "ack1 !ack2 ack3    broken",
-        "!ack1 ack2 ack3    broken",
-        "ack1 ack2 ack3     broken",
+        "ack1 !ack2 ack3    broken by exclusion",
+        "!ack1 ack2 ack3    broken by exclusion",
+        "ack1 ack2 ack3     broken by exclusion",
         "1 step left, input !req1 req2 req3",
-        last,
-        "1 step left, input req1 !req2 req3",
-        last,
-        "1 step left, input req1 req2 !req3",
-        last,
+        "!ack1 !ack2 !ack3  broken by no_loss",
+        "ack1 !ack2 !ack3   broken by no_spurious_acknowledgement",
+        "!ack1 ack2 !ack3   broken by response3_within_2",
+        "ack1 ack2 !ack3    broken by exclusion",
+        "!ack1 !ack2 ack3   broken by response2_within_2",
     ];
-    assert_eq!(lines, play);
+    assert_eq!(lines[..play.len()], play);
+    let inputs = lines.iter().filter(|line| line.contains("left, input")).count();
+    assert_eq!((lines.len(), inputs), (4 * 9, 4 + 3));
 }
 
 /// What can be kept is refused 23, in words on standard error; other refusals are the sheet's.

@@ -3,13 +3,12 @@
 use guard::{Forced, Guard, Refusal, Supervisor, Work};
 use reference::{Fault, Kept, Product, Sheet};
 
-use super::forced::steps;
 use super::Command;
 use crate::arguments::Arguments;
 use crate::bench::{Bench, Outcome, Stop};
 use crate::making;
+use crate::play::Play;
 use crate::source::Source;
-use crate::states::States;
 
 pub const COMMAND: Command = Command {
     name: "check",
@@ -17,9 +16,10 @@ pub const COMMAND: Command = Command {
     about: "whether a sheet is accepted; if not, why and where",
     help: "\
 Prints the number of states and the lengths of both tables; or the refusal's number, its ground, and
-the record and byte where it is found, or of an unrealizable sheet in how many steps a break is forced,
-and by which input first. All numbers are the proved library's. Places and names are told by an
-independent reader; should that one differ, the number stands alone and the exit status is 3.
+the record and byte where it is found, or of an unrealizable sheet of which monitors one is forced to
+break, in how many steps, and by which input first. All numbers are the proved library's. Places and
+names are told by an independent reader; should that one differ, the number stands alone and the exit
+status is 3.
 ",
     files: 1,
     options: &[],
@@ -70,11 +70,9 @@ fn found(source: &Source) -> (u32, Option<String>) {
 /// How a sheet is beaten, by the library; nothing where the reference differs.
 fn beaten(source: &Source) -> Option<String> {
     let forced = Forced::make(&source.bytes, &mut Work::new()).ok()?;
-    let named = States::of_forced(source, &forced)?.named;
-    let force = forced.get(0)?;
-    let input = named.names.input(named.sheet.mode, force.input);
-    let steps = steps(force.steps);
-    Some(format!("a break is forced in {steps}, first input {input}; guard forced tells the play"))
+    let play = Play::of(source, &forced)?;
+    let input = play.input(play.first().force.input);
+    Some(format!("{}, first input {input}; guard forced tells the play", play.told()))
 }
 
 /// Record, byte and words of a fault; record 0 is the head, and monitors are counted from 0.

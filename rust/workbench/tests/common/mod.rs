@@ -2,11 +2,13 @@
 
 #![allow(dead_code)]
 
+use std::collections::BTreeSet;
 use std::ffi::OsString;
 use std::path::PathBuf;
 
+use conformance::monitors::broken;
 use conformance::Random;
-use reference::{Mode, Role, Sheet};
+use reference::{Force, Mode, Product, Role, Sheet};
 use workbench::bench::{Bench, Stop};
 use workbench::commands;
 
@@ -107,22 +109,92 @@ pub fn input_name(sheet: &Sheet, input: u8) -> String {
     }
 }
 
+/// A monitor by its made-up name.
+pub fn monitor_name(sheet: &Sheet, monitor: usize) -> String {
+    match sheet.monitors[monitor].role {
+        Role::Hard => format!("hard{monitor}"),
+        Role::Soft => format!("soft{monitor}"),
+        Role::Limit => format!("limit{monitor}"),
+    }
+}
+
 /// The monitors of a product state by made-up names, then the copies.
 pub fn monitors(sheet: &Sheet, tuple: &[u8]) -> String {
-    let name = |j: usize| match sheet.monitors[j].role {
-        Role::Hard => format!("hard{j}"),
-        Role::Soft => format!("soft{j}"),
-        Role::Limit => format!("limit{j}"),
-    };
     let count = sheet.monitors.len();
-    let own: Vec<String> = (0..count).map(|j| format!("{} s{}", name(j), tuple[j])).collect();
+    let place = |(j, state): (usize, &u8)| format!("{} s{state}", monitor_name(sheet, j));
+    let own: Vec<String> = (0..count).zip(tuple).map(place).collect();
     let hard = (0..count).filter(|&j| sheet.monitors[j].role == Role::Hard);
-    let copies: Vec<String> =
-        hard.zip(&tuple[count..]).map(|(j, state)| format!("{} s{state}", name(j))).collect();
+    let copies: Vec<String> = hard.zip(&tuple[count..]).map(place).collect();
     match (own.is_empty(), sheet.mode == Mode::Shield && !copies.is_empty()) {
         (true, _) => String::new(),
         (_, false) => format!(": {}", own.join(", ")),
         (_, true) => format!(": {}; proposal {}", own.join(", "), copies.join(", ")),
+    }
+}
+
+/// The reference's play of a sheet that is lost.
+pub struct Play {
+    pub sheet: Sheet,
+    pub product: Product,
+    pub forces: Vec<Option<Force>>,
+}
+
+impl Play {
+    pub fn of(bytes: &[u8]) -> Play {
+        let sheet = Sheet::parse(bytes).expect("in bounds");
+        let product = Product::explore(&sheet).expect("few states");
+        Play { sheet, product, forces: reference::forced(bytes).expect("lost") }
+    }
+
+    /// How a state that the play comes to is forced.
+    pub fn force(&self, state: usize) -> Force {
+        self.forces[state].expect("the play comes to no kept state")
+    }
+
+    /// The states after each output to the input that is given in a state; where the step is broken, the
+    /// first monitor that breaks.
+    pub fn answers(&self, state: usize) -> Vec<Result<usize, usize>> {
+        let (input, tuple) = (self.force(state).input, self.product.tuple(state));
+        let answer = |output: usize| match self.product.edge(state, input.into(), output).next() {
+            Some(next) => Ok(next),
+            None => Err(broken(&self.sheet, tuple, input, output as u8)[0]),
+        };
+        (0..self.product.output_count()).map(answer).collect()
+    }
+
+    /// The states that the play comes to, as first met.
+    pub fn reached(&self) -> Vec<usize> {
+        let mut found = vec![0];
+        for place in 0.. {
+            let Some(&state) = found.get(place) else { break };
+            for next in self.answers(state).into_iter().flatten() {
+                if !found.contains(&next) {
+                    found.push(next);
+                }
+            }
+        }
+        found
+    }
+
+    /// What the play comes to, in a line.
+    pub fn told(&self) -> String {
+        let answers = self.reached().into_iter().flat_map(|state| self.answers(state));
+        let broken: BTreeSet<usize> = answers.filter_map(Result::err).collect();
+        let mut names: Vec<String> = broken.iter().map(|&j| monitor_name(&self.sheet, j)).collect();
+        let last = names.pop().expect("something is broken in the end");
+        let names = match names.len() {
+            0 => last,
+            _ => format!("{} or {last}", names.join(", ")),
+        };
+        format!("a break of {names} is forced in {}", steps(self.force(0).steps))
+    }
+}
+
+/// So many steps.
+pub fn steps(count: u16) -> String {
+    match count {
+        1 => "1 step".to_string(),
+        _ => format!("{count} steps"),
     }
 }
 
