@@ -4,6 +4,8 @@
 //! The library says the inputs, and at the last step the monitors. Where outputs lead before that, and what
 //! some of them break, is told by the reference's product, and only where its play is the library's.
 
+use std::collections::BTreeSet;
+
 use guard::{Force, Forced};
 use reference::Product;
 
@@ -72,15 +74,13 @@ impl Play {
     }
 
     /// What it comes to: the monitors of which one is broken in the end, and in how many steps.
-    pub fn told(&self) -> String {
+    pub fn summary(&self) -> String {
         let broken = |answer: &Answer| match answer {
             Answer::Break(monitor) => Some(*monitor),
             Answer::State(..) => None,
         };
-        let mut monitors: Vec<usize> =
-            self.turns.iter().flat_map(|turn| turn.answers.iter().filter_map(broken)).collect();
-        monitors.sort();
-        monitors.dedup();
+        let answers = self.turns.iter().flat_map(|turn| &turn.answers);
+        let monitors: BTreeSet<usize> = answers.filter_map(broken).collect();
         let names: Vec<&str> = monitors.into_iter().map(|monitor| self.monitor(monitor)).collect();
         format!("a break of {} is forced in {}", any_of(&names), steps(self.first().force.steps))
     }

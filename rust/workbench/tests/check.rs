@@ -24,7 +24,7 @@ fn detail(bytes: &[u8], refusal: Refusal) -> String {
     }
     let play = Play::of(bytes);
     let input = input_name(&play.sheet, play.force(0).input);
-    format!("  {}, first input {input}; guard forced tells the play\n", play.told())
+    format!("  {}, first input {input}; guard forced tells the play\n", play.summary())
 }
 
 /// What is printed of a sheet, from the library's answers and the reference's place.

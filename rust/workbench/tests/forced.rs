@@ -44,7 +44,7 @@ fn plays_are_told_whole() {
         let turns: String = reached.iter().map(|&state| turn(&play, state)).collect();
         let done = guard(&["forced", "-"], hexadecimal(&bytes).as_bytes());
         assert_eq!((done.status, done.err.as_str()), (0, ""), "case {case}");
-        assert_eq!(done.text(), format!("{}\n{turns}", play.told()), "case {case}");
+        assert_eq!(done.text(), format!("{}\n{turns}", play.summary()), "case {case}");
         shields += usize::from(play.sheet.mode == Mode::Shield);
         long += usize::from(reached.len() > 3);
         parts += usize::from(reached.len() < play.product.count());

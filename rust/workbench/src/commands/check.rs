@@ -72,7 +72,7 @@ fn beaten(source: &Source) -> Option<String> {
     let forced = Forced::make(&source.bytes, &mut Work::new()).ok()?;
     let play = Play::of(source, &forced)?;
     let input = play.input(play.first().force.input);
-    Some(format!("{}, first input {input}; guard forced tells the play", play.told()))
+    Some(format!("{}, first input {input}; guard forced tells the play", play.summary()))
 }
 
 /// Record, byte and words of a fault; record 0 is the head, and monitors are counted from 0.

@@ -44,7 +44,7 @@ fn write_play(play: &Play, bench: &mut Bench) -> Outcome {
     let outputs: Vec<String> =
         (0..1 << named.sheet.lines_out).map(|output| named.names.output(output)).collect();
     let width = outputs.iter().map(String::len).max().unwrap_or(0);
-    writeln!(bench.out, "{}", play.told())?;
+    writeln!(bench.out, "{}", play.summary())?;
     for Turn { state, force, answers } in &play.turns {
         writeln!(bench.out, "state {state}{}", play.states.described(*state))?;
         writeln!(bench.out, "  {}", left(force))?;

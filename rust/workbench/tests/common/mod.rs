@@ -177,7 +177,7 @@ impl Play {
     }
 
     /// What the play comes to, in a line.
-    pub fn told(&self) -> String {
+    pub fn summary(&self) -> String {
         let answers = self.reached().into_iter().flat_map(|state| self.answers(state));
         let broken: BTreeSet<usize> = answers.filter_map(Result::err).collect();
         let mut names: Vec<String> = broken.iter().map(|&j| monitor_name(&self.sheet, j)).collect();
