@@ -310,7 +310,8 @@ fn a_broken_step_says_the_first_monitor_that_broke() {
         }
     }
     println!("steps broken by none, by one and by several monitors: {seen:?}");
-    assert!(seen.iter().all(|&steps| steps > 1_000), "too few of a sort");
+    let few = seen.iter().any(|&steps| steps < 1_000);
+    assert!(cases(1_000) < 1_000 || !few, "too few of a sort");
 }
 
 #[test]
