@@ -186,11 +186,16 @@ impl Seen {
     }
 }
 
-/// Whether an entry's monitors are right: one step from the end each byte is that of the first monitor
-/// which its output breaks at the input, elsewhere it is 255.
+/// The monitor that a step is broken by.
+fn first(sheet: &Sheet, at: &Tuple, input: u8, output: u8) -> Option<usize> {
+    broken(sheet, at, input, output).first().copied()
+}
+
+/// Whether an entry's monitors are right: one step from the end each byte is the monitor that its output is
+/// broken by at the input, elsewhere it is 255.
 fn monitors_hold(sheet: &Sheet, at: &Tuple, entry: &Entry) -> bool {
     let named = |output| match entry.steps {
-        1 => broken(sheet, at, entry.input, output).first().copied(),
+        1 => first(sheet, at, entry.input, output),
         _ => None,
     };
     let byte = |output| named(output).map_or(NO_MONITOR, |monitor| monitor as u8);
@@ -275,10 +280,6 @@ fn the_library_s_plays_fit_the_reference_s_product() {
 
 /// The monitor named for an input and an output.
 type Naming = fn(&Sheet, &Tuple, u8, u8) -> Option<usize>;
-
-fn first(sheet: &Sheet, at: &Tuple, input: u8, output: u8) -> Option<usize> {
-    broken(sheet, at, input, output).first().copied()
-}
 
 fn last(sheet: &Sheet, at: &Tuple, input: u8, output: u8) -> Option<usize> {
     broken(sheet, at, input, output).last().copied()

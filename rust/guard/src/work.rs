@@ -15,7 +15,7 @@ const FORKS: usize = 4;
 pub struct Work {
     /// The product states, twelve monitor states packed into one number.
     pub tuples: Vec<u64>,
-    /// For each product state and letter the next state.
+    /// For each product state and letter the next state, or the monitor that broke.
     pub cells: Vec<u16>,
     /// The index of the product states while they are numbered; then the round that dropped each.
     pub dropped: Vec<u16>,
