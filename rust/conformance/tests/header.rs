@@ -31,7 +31,7 @@ const TYPES: [(&str, &str); 9] = [
     ("Forecast", "crates/forecast/src/make.rt"),
     ("Forcing", "crates/forced/src/make.rt"),
     ("CardWords", "crates/card_words/src/lib.rt"),
-    ("Unnamed", "crates/forced_rows/src/lib.rt"),
+    ("Breaker", "crates/forced_rows/src/lib.rt"),
     ("Report", "crates/report/src/lib.rt"),
 ];
 
@@ -84,7 +84,7 @@ fn defined() -> BTreeMap<String, usize> {
 fn lengths_and_marks_are_rattle_s() {
     assert_eq!(Guard::LISTING_BYTES_MOST, rattle("Report::TEXT"));
     assert_eq!(calls::CARD_WORDS, rattle("CardWords::LENGTH"));
-    assert_eq!(usize::from(calls::NO_MONITOR), rattle("Unnamed::BYTE"));
+    assert_eq!(usize::from(calls::NO_MONITOR), rattle("Breaker::NONE"));
 }
 
 /// A length of work memory for each constant of Rattle's makers, and no other.

@@ -1,8 +1,8 @@
 -- The table of steps of a sheet, and what its entries mean: kept, lost and allowed.
 -- Assumes nothing.
-use mathlib.Core.Path.{_≡_, refl, sym, ap, _∙_, subst}
+use mathlib.Core.Path.{_≡_, sym, ap, _∙_, subst}
 use mathlib.Core.Logic.{_↔_}
-use mathlib.Core.Bool.{Bool, true, false, cond, not}
+use mathlib.Core.Bool.{true, false, not}
 use mathlib.Core.List.{List}
 use Prim.Native.Nat.{ℕ, zero, suc, _+_, _-_, _*_, _/_, _%_, _≤_, _<_}
 use native.Mathlib.Nat.{mod-lt, div-lt-iff-lt-mul}
@@ -11,7 +11,7 @@ use lib.Arith.{digits-lt, digits-div, digits-mod}
 use lib.Dec.{eqb}
 use lib.ListN.{length, getD, length-replicate}
 use borrow.Author.Tests.{not-true}
-use Rattle.records.specs.Laws.Tests.{by-test, both-ways}
+use Rattle.records.specs.Laws.Tests.{by-test}
 use Rattle.records.specs.Meaning.Limits.{maxStates}
 use Rattle.records.specs.Laws.Lists.{getD-tab, length-tab}
 use Rattle.records.specs.Meaning.Numbers.{zeros}
@@ -26,7 +26,7 @@ use Rattle.game.specs.Model.Rounds.{keptAfter, droppedBy, may, Quiet}
 use Rattle.game.specs.Laws.Rounds.{quiet-on, kept-dropped, kept-iff, lost-iff, allowed-iff}
 use Rattle.game.specs.Laws.Naming.{Names, dropped-named}
 use Rattle.game.specs.Laws.Reachable.{letter-low, letter-input, letter-output, input-low, output-low, reachable-closed}
-use Rattle.records.specs.Model.Cells.{brokenFrom, brokenCell, isBroken}
+use Rattle.records.specs.Model.Cells.{brokenCell, isBroken}
 use Rattle.rounds.specs.Model.TableRounds.{Steps, cellAt, isIn, leadsIn, rounds, settled}
 use Rattle.rounds.specs.Laws.TableRounds.{length-rounds}
 use Rattle.solve.specs.Meaning.Allowed.{Kept, Lost, Allowed}
