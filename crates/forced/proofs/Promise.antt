@@ -3,18 +3,21 @@
 use mathlib.Core.Path.{_≡_, refl, sym, ap, _∙_, subst}
 use mathlib.Core.Bool.{false}
 use mathlib.Core.List.{List, _++_}
-use Prim.Native.Nat.{ℕ, _≤_}
+use Prim.Native.Nat.{ℕ, _+_, _≤_}
+use native.Mathlib.Nat.{mul-le-mul}
 use native.Mathlib.Omega.{arith}
 use lib.Dec.{eqb}
 use lib.ListN.{length, take, drop}
 use lib.Seq.{take-append-seam}
 use borrow.Author.Tests.{ne-eqb}
+use Rattle.records.specs.Meaning.Limits.{maxOuts}
 use Rattle.records.specs.Meaning.Numbers.{Bytes}
 use Rattle.records.specs.Meaning.Work.{longEnough, askedBytes}
 use Rattle.records.specs.Laws.Lists.{sets-front}
 use Rattle.sheet.specs.Meaning.Decoded.{Decoded}
 use Rattle.sheet.specs.Laws.Reading.{only-sheet}
 use Rattle.product.specs.Model.ProductNumbering.{stateCount}
+use Rattle.product.specs.Laws.Counts.{outputs-most}
 use Rattle.product.specs.Laws.Outcome.{broken-by}
 use Rattle.rounds.specs.Model.TableRounds.{isIn}
 use Rattle.forced_rows.specs.Meaning.ForcedBytes.{forcedLength}
@@ -64,6 +67,7 @@ module _
         rw (size ∙ sym (length-is d), bytes) (take-append-seam (forcedOf d) (drop (answerLength d) before)) in
         record {
           size = size;
+          most = rw size (mul-le-mul {m₂ = 3 + maxOuts} (few-fit d few) (omega (arith, outputs-most d (x .in-bounds .head))));
           states = states;
           bytes = bytes;
           shows = rw (states, front) (says d x few);

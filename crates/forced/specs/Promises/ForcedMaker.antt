@@ -6,7 +6,7 @@ use mathlib.Core.Bool.{true}
 use mathlib.Core.List.{List, [], _++_}
 use Prim.Native.Nat.{ℕ, _+_, _*_, _^_, _≤_, _<_}
 use lib.ListN.{length, getD, take, drop}
-use Rattle.records.specs.Meaning.Limits.{maxStates}
+use Rattle.records.specs.Meaning.Limits.{maxStates, maxOuts}
 use Rattle.records.specs.Meaning.Work.{Slice, longEnough, askedBytes}
 use Rattle.sheet.specs.Meaning.Decoded.{Decoded}
 use Rattle.product.specs.Meaning.Step.{outputsOf, broken, BrokenBy, firstTuple}
@@ -72,6 +72,7 @@ pub record ShowsPlay (d : Decoded) (n : ℕ) (bytes : List ℕ) : Type 0 where
 -- what was written: the answer, then what the result held before, and its figures
 pub record Played (d : Decoded) (before : List ℕ) (r : Forced) (after : List ℕ) : Type 0 where
   pub size : playLength r ≡ answerLength d
+  pub most : playLength r ≤ maxStates * (3 + maxOuts)
   pub states : playStates r ≡ stateCount d
   pub bytes : after ≡ forcedOf d ++ drop (answerLength d) before
   -- of the bytes that were written
