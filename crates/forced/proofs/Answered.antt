@@ -30,7 +30,7 @@ use Rattle.solve.specs.Model.SolvingSheet.{solvingNumber, SolvedSheet}
 use Rattle.solve.specs.Laws.Entries.{length-dropped, sheet-steps}
 use Rattle.solve.specs.Laws.Solving.{cells-agree, numbering-fits}
 use Rattle.solve.specs.Laws.OrderedNumber.{refused-off, ordered-refused, solved-start, solved-past}
-use Rattle.forced.specs.Laws.Shown.{input-low}
+use Rattle.forced.specs.Laws.Shown.{forcing-low}
 use Rattle.forced.specs.Model.ForcedOfSheet.{forcedOf, forcedSize, heldNumber, Plays}
 use Rattle.forced.specs.declared.answer.Ground.the-variants as ground
 use Rattle.forced.specs.declared.answer.Forced.the-variants.{Play, Refused}
@@ -91,7 +91,7 @@ module _ {ok : Bool} {s : List ℕ} (before : List ℕ) where
                 ← forcing-agree (sheet-steps d fits) cells (cells-agree numbering) (droppedOf d) dropped same-entries
                     (omega (arith, length-dropped d)) (omega (arith, numbering .counted)) k (omega (arith, numbering .counted)),
               )
-              (input-low d fits k (omega (arith, numbering .counted)))
+              (forcing-low d fits k (omega (arith, numbering .counted)))
 
           rows : cat n (forcedRow cells dropped ins outs) ≡ forcedOf d
           unfolding forcedOf
@@ -100,7 +100,7 @@ module _ {ok : Bool} {s : List ℕ} (before : List ℕ) where
               rw (ins-are, outs-are, numbering .counted)
               (cat-ext (stateCount d) _ _ (λ k u.
               sym (forced-agree (sheet-steps d fits) cells (cells-agree numbering) (droppedOf d) dropped same-entries
-              (omega (arith, length-dropped d)) (omega (arith, numbering .counted)) k u (input-low d fits k u))))
+              (omega (arith, length-dropped d)) (omega (arith, numbering .counted)) k u (forcing-low d fits k u))))
 
       module _ (lost : start ≡ false) {outs size : ℕ} (is-outputs : outs ≡ 2 ^ sheet .outputs) (sized : size ≡ forcedLength outs n) where
         size-is : size ≡ forcedSize (sheetOf s)

@@ -10,11 +10,11 @@ use lib.Dec.{eqb}
 use lib.ListN.{length, take, drop}
 use lib.Seq.{take-append-seam}
 use borrow.Author.Tests.{ne-eqb}
-use Rattle.records.specs.Meaning.Limits.{maxOuts}
+use Rattle.records.specs.Meaning.Limits.{maxStates, maxOuts}
 use Rattle.records.specs.Meaning.Numbers.{Bytes}
 use Rattle.records.specs.Meaning.Work.{longEnough, askedBytes}
 use Rattle.records.specs.Laws.Lists.{sets-front}
-use Rattle.sheet.specs.Meaning.Decoded.{Decoded}
+use Rattle.sheet.specs.Meaning.Decoded.{Decoded, HeadOk}
 use Rattle.sheet.specs.Laws.Reading.{only-sheet}
 use Rattle.product.specs.Model.ProductNumbering.{stateCount}
 use Rattle.product.specs.Laws.Counts.{outputs-most}
@@ -32,18 +32,23 @@ use Rattle.forced.specs.Meaning.Answer.{playNumber, playLength, playStat
 use Rattle.forced.specs.Meaning.Play.{Realizable}
 use Rattle.forced.specs.Model.ForcedOfSheet.{forcedOf, forcedSize, heldNumber, Plays}
 use Rattle.forced.specs.Laws.Shown.{shows}
-use Rattle.forced.specs.Promises.ForcedMaker.{forcedWork, answerLength, ShowsPlay, Played, Unplayed, MakesForced}
+use Rattle.forced.specs.Promises.ForcedMaker.{forcedWork, ShowsPlay, Played, Unplayed, MakesForced}
 use Rattle.forced.specs.declared.answer.Forced.{Forced}
 use Rattle.forced.proofs.Only.{only-answer}
 
-length-is : (d : Decoded) → length (forcedOf d) ≡ answerLength d
-unfolding forcedOf forcedLength
+-- so many bytes, and never more than these
+length-is : (d : Decoded) → length (forcedOf d) ≡ forcedSize d
+unfolding forcedOf forcedSize
 length-is d = length-forced-rows (cellsOf d) (droppedOf d) _ _ (stateCount d)
+
+size-most : (d : Decoded) → HeadOk d → stateCount d ≤ maxStates → forcedSize d ≤ forcedLength maxOuts maxStates
+unfolding forcedSize forcedLength
+size-most d head few = mul-le-mul {m₂ = 3 + maxOuts} few (omega (arith, outputs-most d head))
 
 module _
     {s before : List ℕ} {r : Forced} {after : List ℕ} (lent : List ℕ) (plays : Plays (longEnough forcedWork lent) s before r after)
     (same : (d : Decoded) → IsSheet s d → sheetOf s ≡ d)
-    (order : InOrder 23 Realizable Unrealizable answerLength (longEnough forcedWork lent) s (length before) (playNumber r))
+    (order : InOrder 23 Realizable Unrealizable forcedSize (longEnough forcedWork lent) s (length before) (playNumber r))
   where
     -- what the answer of a sheet says
     says : (d : Decoded) → IsSheet s d → (TooMany d → ⊥) → ShowsPlay d (stateCount d) (forcedOf d)
@@ -51,23 +56,22 @@ module _
 
     -- the answer was written
     wrote : playNumber r ≡ 0 → (d : Decoded) → IsSheet s d → Played d before r after
-    unfolding forcedSize forcedLength
     wrote e d x =
         let found = order .exactly .0 e in
         let one : found .0 ≡ d = sym (same (found .0) (found .1)) ∙ same d x in
         let few : TooMany d → ⊥ = subst (λ (y : Decoded). TooMany y → ⊥) one (found .2) in
-        let room : answerLength d ≤ length before = subst (λ (y : Decoded). answerLength y ≤ length before) one (found .5) in
-        let size : playLength r ≡ answerLength d = plays .size ∙ rw e (ap forcedSize (same d x)) in
+        let room : forcedSize d ≤ length before = subst (λ (y : Decoded). forcedSize y ≤ length before) one (found .5) in
+        let size : playLength r ≡ forcedSize d = plays .size ∙ rw e (ap forcedSize (same d x)) in
         let states : playStates r ≡ stateCount d = plays .states ∙ rw e (ap stateCount (same d x)) in
-        let bytes : after ≡ forcedOf d ++ drop (answerLength d) before =
+        let bytes : after ≡ forcedOf d ++ drop (forcedSize d) before =
         plays .bytes
         ∙ rw (e, same d x, sets-front before (forcedOf d) (omega (arith, length-is d)))
         (ap (λ (n : ℕ). forcedOf d ++ drop n before) (length-is d)) in
         let front : take (playLength r) after ≡ forcedOf d =
-        rw (size ∙ sym (length-is d), bytes) (take-append-seam (forcedOf d) (drop (answerLength d) before)) in
+        rw (size ∙ sym (length-is d), bytes) (take-append-seam (forcedOf d) (drop (forcedSize d) before)) in
         record {
           size = size;
-          most = rw size (mul-le-mul {m₂ = 3 + maxOuts} (few-fit d few) (omega (arith, outputs-most d (x .in-bounds .head))));
+          most = rw size (size-most d (x .in-bounds .head) (few-fit d few));
           states = states;
           bytes = bytes;
           shows = rw (states, front) (says d x few);
@@ -111,7 +115,6 @@ held-stops =
 
 pub forced-promise : {s before : List ℕ} {r : Forced} {after : List ℕ} (lent : List ℕ) → Bytes s
     → Plays (longEnough forcedWork lent) s before r after → MakesForced s before lent r after
-unfolding forcedSize forcedLength
 forced-promise {s} {before} {r} lent bytes plays =
     forced-makes lent plays (only-is (only-sheet s))
     (orders-bytes held-stops forcedSize (longEnough forcedWork lent) s (length before) (playNumber r) (plays .number) bytes)

@@ -133,7 +133,7 @@ pub fn breaker_at(
     breaker_in(cells[cell_at(ins, outs, k, i, o)])
 }
 
-// The monitors of state k, a byte for each output value.
+// The monitors of state k at input i, a byte for each output value.
 pub fn put_breakers(
     result: &mut [u8],
     at: usize,
@@ -172,7 +172,8 @@ pub fn put_row(
 )
     requires { ⌜ Steps (now cells) n ins outs ⌝ }
     requires { ⌜ CellEntered (now dropped) n k ⌝ }
-    requires { ⌜ (ins ≤ maxIns) × (forcingInput (now cells) (now dropped) ins outs k < ins) × (at + (3 + outs) ≤ length (now result)) ⌝ }
+    requires { ⌜ (ins ≤ maxIns) × (at + (3 + outs) ≤ length (now result)) ⌝ }
+    requires { ⌜ forcingInput (now cells) (now dropped) ins outs k < ins ⌝ }
     ensures { λ _. ⌜
         now (result .exit) ≡ sets (now (result .entry)) at (forcedRow (now (cells .entry)) (now (dropped .entry)) ins outs k) ⌝ }
 {

@@ -124,8 +124,8 @@ module _ (d : Decoded) (fits : stateCount d ≤ maxStates) where
         (stateOf d k) (record { inside = state-reached d k h; kept = sym (in-kept d fits k h) ∙ state-in d fits k h .1 q })
 
     -- the input is one of the sheet's
-    pub input-low : inputOf k < inputsOf d
-    input-low =
+    pub forcing-low : inputOf k < inputsOf d
+    forcing-low =
         cases
         (λ e y. omega (arith, forcing-kept (cellsOf d) (droppedOf d) (inputsOf d) (outputsOf d) k y, pow-pos (inputLines d)))
         (λ m e y. forced-is m e y .input)
@@ -147,7 +147,7 @@ module _ (d : Decoded) (fits : stateCount d ≤ maxStates) where
           by .0,
           by .1,
           breaker-one (cellsOf d) (droppedOf d) (inputsOf d) (outputsOf d) k (inputOf k) o e
-              ∙ ap breakerIn (mark-is d k (inputOf k) o h input-low ho (by .1)) ∙ breaker-marked (by .0),
+              ∙ ap breakerIn (mark-is d k (inputOf k) o h forcing-low ho (by .1)) ∙ breaker-marked (by .0),
         )
 
     named : (o : ℕ) → o < outputsOf d → stepsOf k ≡ 1
@@ -180,10 +180,10 @@ module _ (d : Decoded) (fits : stateCount d ≤ maxStates) where
         input = inputOf;
         monitor = breakersOf;
         bytes-are = rows-answer (cellsOf d) (droppedOf d) (inputsOf d) (outputsOf d) (stateCount d);
-        size = unfold forcedLength in length-forced-rows (cellsOf d) (droppedOf d) (inputsOf d) (outputsOf d) (stateCount d);
+        size = length-forced-rows (cellsOf d) (droppedOf d) (inputsOf d) (outputsOf d) (stateCount d);
         steps-most = most;
         two-bytes = λ k h. omega (arith, most k h);
-        one-byte = λ k h. omega (arith, input-low k h, inputs-most d (ok .head));
+        one-byte = λ k h. omega (arith, forcing-low k h, inputs-most d (ok .head));
         monitor-byte = λ k o h. monitor-byte k h (ok .count) o;
         kept-is = kept-zero;
         kept-input = λ k h q. forcing-kept (cellsOf d) (droppedOf d) (inputsOf d) (outputsOf d) k (state-in d fits k h .1 q);

@@ -4,7 +4,7 @@ use mathlib.Core.Path.{_≡_}
 use mathlib.Core.Logic.{_↔_}
 use mathlib.Core.Bool.{true}
 use mathlib.Core.List.{List, [], _++_}
-use Prim.Native.Nat.{ℕ, _+_, _*_, _^_, _≤_, _<_}
+use Prim.Native.Nat.{ℕ, _*_, _^_, _≤_, _<_}
 use lib.ListN.{length, getD, take, drop}
 use Rattle.records.specs.Meaning.Limits.{maxStates, maxOuts}
 use Rattle.records.specs.Meaning.Work.{Slice, longEnough, askedBytes}
@@ -12,13 +12,13 @@ use Rattle.sheet.specs.Meaning.Decoded.{Decoded}
 use Rattle.product.specs.Meaning.Step.{outputsOf, broken, BrokenBy, firstTuple}
 use Rattle.product.specs.Meaning.States.{ProductStates}
 use Rattle.product.specs.Model.ProductNumbering.{stateCount}
-use Rattle.forced_rows.specs.Meaning.ForcedBytes.{forcedAnswer}
+use Rattle.forced_rows.specs.Meaning.ForcedBytes.{forcedAnswer, forcedLength, noBreaker}
 use Rattle.solve.specs.Meaning.Allowed.{Kept, Lost, TooMany, Unrealizable, IsSheet}
 use Rattle.solve.specs.Promises.RefusalOrder.{InOrder}
 use Rattle.solve.specs.Promises.OpeningWork.{openingWork, workMost}
 use Rattle.forced.specs.Meaning.Answer.{playNumber, playLength, playStates}
 use Rattle.forced.specs.Meaning.Play.{ForcedFrom, HoldsOut, Realizable}
-use Rattle.forced.specs.Model.ForcedOfSheet.{forcedOf, Plays}
+use Rattle.forced.specs.Model.ForcedOfSheet.{forcedOf, forcedSize, Plays}
 use Rattle.forced.specs.declared.answer.Forced.{Forced}
 
 -- ---- work memory
@@ -32,10 +32,6 @@ forcedWork = forcedWorkFor maxStates
 
 -- ---- what the bytes say
 
--- how many they are
-abbrev pub answerLength : Decoded → ℕ
-answerLength d = stateCount d * (3 + outputsOf d)
-
 -- a row of bytes for each of n product states, in the order of their numbers
 pub record ShowsPlay (d : Decoded) (n : ℕ) (bytes : List ℕ) : Type 0 where
   -- the product states, as first met
@@ -47,7 +43,7 @@ pub record ShowsPlay (d : Decoded) (n : ℕ) (bytes : List ℕ) : Type 0 where
   pub input : ℕ → ℕ
   pub monitor : ℕ → ℕ → ℕ
   pub bytes-are : bytes ≡ forcedAnswer (outputsOf d) n steps input monitor
-  pub size : length bytes ≡ n * (3 + outputsOf d)
+  pub size : length bytes ≡ forcedLength (outputsOf d) n
   -- no more steps than product states, so that two bytes hold them, and one the input and each monitor
   pub steps-most : (k : ℕ) → k < n → steps k ≤ n
   pub two-bytes : (k : ℕ) → k < n → steps k < 2 ^ 16
@@ -65,16 +61,16 @@ pub record ShowsPlay (d : Decoded) (n : ℕ) (bytes : List ℕ) : Type 0 where
   -- is named
   pub named : (k o : ℕ) → k < n → o < outputsOf d → steps k ≡ 1
       → (j : ℕ) → (monitor k o ≡ j) ↔ BrokenBy d (getD tuples k (firstTuple d)) (input k) o j
-  pub unnamed : (k o : ℕ) → k < n → o < outputsOf d → (steps k ≡ 1 → ⊥) → monitor k o ≡ 255
+  pub unnamed : (k o : ℕ) → k < n → o < outputsOf d → (steps k ≡ 1 → ⊥) → monitor k o ≡ noBreaker
 
 -- ---- the promise: `before` and `after` are the result memory, `lent` the lengths of the work memory
 
 -- what was written: the answer, then what the result held before, and its figures
 pub record Played (d : Decoded) (before : List ℕ) (r : Forced) (after : List ℕ) : Type 0 where
-  pub size : playLength r ≡ answerLength d
-  pub most : playLength r ≤ maxStates * (3 + maxOuts)
+  pub size : playLength r ≡ forcedSize d
+  pub most : playLength r ≤ forcedLength maxOuts maxStates
   pub states : playStates r ≡ stateCount d
-  pub bytes : after ≡ forcedOf d ++ drop (answerLength d) before
+  pub bytes : after ≡ forcedOf d ++ drop (forcedSize d) before
   -- of the bytes that were written
   pub shows : ShowsPlay d (playStates r) (take (playLength r) after)
 
@@ -87,7 +83,7 @@ pub record Unplayed (before : List ℕ) (r : Forced) (after : List ℕ) : Type 0
 pub record MakesForced (s before lent : List ℕ) (r : Forced) (after : List ℕ) : Type 0 where
   pub plays : Plays (longEnough forcedWork lent) s before r after
   -- 10, 1 to 6, 7, then 23 in the place of 8 exactly if the sheet is realizable, then 9
-  pub ordered : InOrder 23 Realizable Unrealizable answerLength (longEnough forcedWork lent) s (length before) (playNumber r)
+  pub ordered : InOrder 23 Realizable Unrealizable forcedSize (longEnough forcedWork lent) s (length before) (playNumber r)
   pub never-eight : playNumber r ≡ 8 → ⊥
   pub played : playNumber r ≡ 0 → (d : Decoded) → IsSheet s d → Played d before r after
   pub unplayed : (playNumber r ≡ 0 → ⊥) → Unplayed before r after

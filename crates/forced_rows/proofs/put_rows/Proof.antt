@@ -45,7 +45,7 @@ put-row-requires : tie.Need-put-row-requires Inv-loop μ-loop
 put-row-requires c κs =
     let p = entry (c .before) .pre in (
       p .0,
-      (record { room = omega arith; state = omega arith }, (omega arith, p .1 .1 .0 _ (omega arith), inside (c .before))),
+      (record { room = omega arith; state = omega arith }, ((omega arith, inside (c .before)), p .1 .1 .0 _ (omega arith))),
     )
 
 add-k : tie.Need-add-k Inv-loop μ-loop

@@ -3,7 +3,8 @@
 use mathlib.Core.Path.{refl}
 use mathlib.Core.List.{List, [], _∷_}
 use Rattle.sheet.specs.Meaning.Decoded.{encode}
-use Rattle.notebook.specs.Model.Sheets.{decodedA, sheetA, sheet3, sheet4, sheet5, sheet6, sheet7, sheet9, sheet10, idle, limitSheet, letterSheet, soonSheet, bothSheet}
+use Rattle.notebook.specs.Model.Sheets.{decodedA, sheetA, sheet3, sheet4, sheet5, sheet6, sheet7, sheet9, sheet10, idle}
+use Rattle.notebook.specs.Model.Sheets.{limitSheet, letterSheet, soonSheet, bothSheet}
 use Rattle.notebook.specs.Model.Row.{Row, is, are, ordered, AllHold, all-hold}
 use Rattle.notebook.specs.Model.Figures.{supervisorNumber, guardAnswer, forecastNumber, bestSums, leastSums, cardFront, forcedNumber, play, supervisor, guard, states, scores, outputs, deviationsShown}
 use Rattle.notebook.specs.Laws.Opened.{sheets, supervisors, guards, forecasts, plays, boards}
@@ -61,10 +62,17 @@ rows =
     ∷ is (forcedNumber sheetA) 23
     -- input on breaks at once, input off one step later: the lowest input is the lowest of the soonest
     ∷ is (forcedNumber soonSheet) 0
-    ∷ are (play soonSheet) (1 ∷ 0 ∷ 1 ∷ 0 ∷ 0 ∷ 1 ∷ 0 ∷ 0 ∷ 0 ∷ 0 ∷ [])
+    ∷ are (play soonSheet)
+    (1 ∷ 0 ∷ 1 ∷ 0 ∷ 0
+    ∷ 1 ∷ 0 ∷ 0 ∷ 0 ∷ 0
+    ∷ [])
     -- where two monitors break at once, the lower one is named; the soft one before them counts
     ∷ is (forcedNumber bothSheet) 0
-    ∷ are (play bothSheet) (1 ∷ 0 ∷ 1 ∷ 1 ∷ 1 ∷ 1 ∷ 0 ∷ 0 ∷ 1 ∷ 1 ∷ 1 ∷ 0 ∷ 0 ∷ 1 ∷ 1 ∷ [])
+    ∷ are (play bothSheet)
+    (1 ∷ 0 ∷ 1 ∷ 1 ∷ 1
+    ∷ 1 ∷ 0 ∷ 0 ∷ 1 ∷ 1
+    ∷ 1 ∷ 0 ∷ 0 ∷ 1 ∷ 1
+    ∷ [])
     -- P4: head alone, one line each way, on preferred: one state, mask 3, output 1
     ∷ is (supervisorNumber sheet4) 0
     ∷ is (guardAnswer sheet4) 0

@@ -59,6 +59,10 @@ rooms c =
     let kept = solved c .solve-sheet .kept .1 .1 in
     (omega (arith, w .1 .0, kept .1 .0), omega (arith, w .1 .1, kept .1 .1 .0))
 
+-- every state has an entry
+entered : (c : tie.After-enum-told) → solved c .solve-sheet .result .states ≤ length (solved c .solve-sheet .last .1 .1 .1 .1 .0)
+entered c = omega (arith, ready c .solution .numbering .most, rooms c .1)
+
 solve-sheet-requires : tie.Need-solve-sheet-requires
 solve-sheet-requires c κs = search needs
 
@@ -114,8 +118,8 @@ put-rows-requires c κs =
     let outs-are = outs c .pow2 .ensures in (
       layout-steps (r .fits) numbering _ _ ins outs-are (rooms told .0),
       (
-        (omega (arith, numbering .most, rooms told .1), numbering .most, few-inputs (r .fits) ins, few-outputs (r .fits) outs-are),
-        (input-inside (entry (solved told) .args .result .now) r ins outs-are (omega (arith, numbering .most, rooms told .1)), omega (arith, sized (c .before) .answer-length .ensures)),
+        (entered told, numbering .most, few-inputs (r .fits) ins, few-outputs (r .fits) outs-are),
+        (input-inside (entry (solved told) .args .result .now) r ins outs-are (entered told), omega (arith, sized (c .before) .answer-length .ensures)),
       ),
     )
 
@@ -153,7 +157,7 @@ returns-4 c =
     let r = ready (at .before) in
     plays-written (entry (solved (at .before)) .args .result .now) r (at .if1 .left) (outs powers .pow2 .ensures)
     (sized (powers .before) .answer-length .ensures) (omega arith) (powers .pow22 .ensures)
-    (omega (arith, r .solution .numbering .most, rooms (at .before) .1)) (wrote .put-rows .ensures)
+    (entered (at .before)) (wrote .put-rows .ensures)
 
 pub make-with-spec : {M : Type 1} → statement M
 make-with-spec =
