@@ -85,6 +85,8 @@ fn lengths_and_marks_are_rattle_s() {
     assert_eq!(Guard::LISTING_BYTES_MOST, rattle("Report::TEXT"));
     assert_eq!(calls::CARD_WORDS, rattle("CardWords::LENGTH"));
     assert_eq!(usize::from(calls::NO_MONITOR), rattle("Breaker::NONE"));
+    // The bound that the play's promise has.
+    assert_eq!(Forced::BYTES_MOST, rattle("Limits::STATES") * (3 + rattle("Limits::OUTS")));
 }
 
 /// A length of work memory for each constant of Rattle's makers, and no other.

@@ -10,7 +10,7 @@ use crate::{Product, Refusal, Sheet, STATES_MOST};
 /// The steps of a state from which no break can be forced.
 const NEVER: u16 = u16::MAX;
 /// The byte that names no monitor.
-const UNNAMED: u8 = 255;
+const NO_MONITOR: u8 = 255;
 /// The most outputs, of three lines.
 const OUTPUTS_MOST: usize = 8;
 
@@ -94,7 +94,7 @@ pub fn make_forced(sheet: &[u8], result: &mut [u8]) -> Result<Made, Refusal> {
         out.number(steps);
         out.byte(input);
         for output in 0..product.output_count() {
-            out.byte(monitor(&product, state, force, output).map_or(UNNAMED, |j| j as u8));
+            out.byte(monitor(&product, state, force, output).map_or(NO_MONITOR, |j| j as u8));
         }
     }
     Ok(Made { length, states: product.count() })

@@ -8,7 +8,7 @@ use crate::steps::Stepper;
 /// The bytes of an entry before its monitors: steps in two, then the input.
 const FORCE: usize = 3;
 /// The byte that names no monitor.
-const UNNAMED: u8 = 255;
+const NO_MONITOR: u8 = 255;
 
 /// The play, from the rounds: all that is dropped in a round is forced in as many steps, by the lowest
 /// input that then has no answer. What the first one drops is a step from its end, and monitors are
@@ -17,7 +17,7 @@ pub fn make(stepper: &Stepper, product: &Product, result: &mut [u8]) -> Result<M
     let width = FORCE + stepper.sheet.output_count();
     let length = width * product.count();
     // Entries of kept states, until one is dropped.
-    let mut play = [UNNAMED; FORCED_BYTES_MOST];
+    let mut play = [NO_MONITOR; FORCED_BYTES_MOST];
     play[..length].chunks_exact_mut(width).for_each(|entry| entry[..FORCE].fill(0));
     let kept = product.rounds(|state, round, input| {
         let (force, monitors) = play[width * state..][..width].split_at_mut(FORCE);

@@ -39,10 +39,14 @@ impl Turn {
         let force = forced.get(state)?;
         let answer = |output| {
             let edge = product.edge(state, force.input.into(), output);
-            match edge.next() {
-                Some(next) => Some(Answer::State(next, forced.get(next)?)),
-                None => edge.broken_by().map(Answer::Break),
+            if let Some(next) = edge.next() {
+                return Some(Answer::State(next, forced.get(next)?));
             }
+            let monitor = match force.steps {
+                1 => forced.broken_by(state, output as u8),
+                _ => edge.broken_by(),
+            };
+            monitor.map(Answer::Break)
         };
         let answers = (0..product.output_count()).map(answer).collect::<Option<_>>()?;
         Some(Turn { state, force, answers })
