@@ -29,7 +29,7 @@ use Rattle.game.specs.Laws.Rounds.{dropped-le, survives-for-ever}
 use Rattle.game.specs.Laws.Forcing.{kept-by, some-forces, forced}
 use Rattle.game.specs.Laws.Reachable.{reachable-closed}
 use Rattle.rounds.specs.Model.TableRounds.{isIn, answered}
-use Rattle.forced_rows.specs.Meaning.ForcedBytes.{forcedLength, noBreaker}
+use Rattle.forced_rows.specs.Meaning.ForcedBytes.{noBreaker}
 use Rattle.forced_rows.specs.Model.ForcedRows.{beforeRound, forcesAt, forcingInput, breakerIn, breakerAt}
 use Rattle.forced_rows.specs.Laws.ForcedRows.{before-in, forcing-lowest, forcing-kept, rows-answer, length-forced-rows}
 use Rattle.forced_rows.specs.Laws.ForcedRows.{breaker-marked, breaker-one, breaker-else}
