@@ -1,25 +1,24 @@
 // The sheet's output order: ties go to the output whose first literal holds, then the second, and so on.
 use records::limits::Limits;
-use records::numbers::pow2;
 ghost use mathlib.Core.Path.{_≡_};
+ghost use mathlib.Core.Bool.{cond};
 ghost use Prim.Native.Nat.{_≤_};
 ghost use Rattle.records.specs.Meaning.Limits.{maxOutputs, maxOuts};
 ghost use Rattle.records.specs.Meaning.Lists.{tab};
 ghost use Rattle.values.specs.Meaning.Order.{literalHolds};
 ghost use Rattle.values.specs.Model.Rank.{rankBy};
 
-// Whether a literal holds of an output: whether its line is as preferred.
-pub fn literal_holds(literal: u8, o: usize) -> bool
-    ensures { λ r. ⌜ r ≡ literalHolds literal o ⌝ }
+// 1 if a literal holds of an output, 0 if not: its line's bit, turned over where off is preferred.
+// `off` is 0 for a literal below 8 and 1 from 8 on.
+pub fn digit_of(literal: u8, o: usize) -> usize
+    ensures { λ r. ⌜ r ≡ cond (literalHolds literal o) 1 0 ⌝ }
 {
-    let line = o / pow2(literal % 8) % 2;
-    if literal < 8 {
-        return line == 1;
-    }
-    line == 0
+    let bit = (o >> (literal % 8)) % 2;
+    let off = (literal as usize + 248) / 256;
+    bit ^ off
 }
 
-// The rank of an output by the first `count` literals: their truths read as a binary number, the first highest.
+// The rank of an output by the first `count` literals: their digits read as a binary number, the first highest.
 pub fn rank_of(literals: [u8; 3], count: usize, o: usize) -> usize
     requires { ⌜ count ≤ maxOutputs ⌝ }
     ensures { λ r. ⌜ r ≡ rankBy literals count o ⌝ }
@@ -27,10 +26,8 @@ pub fn rank_of(literals: [u8; 3], count: usize, o: usize) -> usize
     let mut rank: usize = 0;
     let mut j: usize = 0;
     while j < count {
-        rank *= 2;
-        if literal_holds(literals[j], o) {
-            rank += 1;
-        }
+        let digit = digit_of(literals[j], o);
+        rank = 2 * rank + digit;
         j += 1;
     }
     rank

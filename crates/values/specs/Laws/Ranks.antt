@@ -12,7 +12,8 @@ use native.Mathlib.Omega.{arith}
 use lib.Dec.{ltb, eqb}
 use lib.ListN.{length, getD}
 use lib.Pow.{pow-mono}
-use borrow.Author.Tests.{eqb-true, eqb-false}
+use lib.Bits.{bitXor}
+use borrow.Author.Tests.{ltb-true, ltb-false, eqb-true, eqb-false}
 use Rattle.records.specs.Meaning.Limits.{maxOutputs, maxOuts}
 use Rattle.records.specs.Laws.Tests.{by-test}
 use Rattle.records.specs.Laws.Bounded.{cases-suc}
@@ -42,6 +43,32 @@ digit-less true b h = absurd (omega (arith, digit-low b))
 digit-less false true h = (refl, refl)
 digit-less false false h = absurd (omega arith)
 
+-- a bit left alone, and turned over
+left : (bit : ℕ) → bit < 2 → bitXor bit 0 ≡ digit (eqb bit 1)
+left zero h = refl
+left (suc zero) h = refl
+left (suc (suc bit)) h = absurd (omega arith)
+
+over : (bit : ℕ) → bit < 2 → bitXor bit 1 ≡ digit (eqb bit 0)
+over zero h = refl
+over (suc zero) h = refl
+over (suc (suc bit)) h = absurd (omega arith)
+
+-- a literal's digit without a test: its line's bit, turned over where off is preferred
+pub digit-turned : (literal o line off : ℕ) → line ≡ literal % 8 → (literal < 8 → off ≡ 0) → (8 ≤ literal → off ≡ 1)
+    → bitXor (o / 2 ^ line % 2) off ≡ cond (literalHolds literal o) 1 0
+unfolding literalHolds
+digit-turned literal o line off l below from =
+    let bit : ℕ = o / 2 ^ (literal % 8) % 2 in
+    let small : bit < 2 = mod-lt _ (omega arith) in
+    rw l
+    (by-test (ltb literal 8)
+    (λ t. rw (t, below (ltb-true literal 8 t)) (left bit small))
+    (λ t. rw (t, from (ltb-false literal 8 t)) (over bit small)))
+
+pub digit-small : (literal o r : ℕ) → r ≡ cond (literalHolds literal o) 1 0 → r < 2
+digit-small literal o r e = omega (arith, digit-low (literalHolds literal o))
+
 module _ (literals : List ℕ) where
   -- as a loop that counts up finds it
   pub rank-none : (o : ℕ) → rankBy literals 0 o ≡ 0
@@ -57,9 +84,9 @@ module _ (literals : List ℕ) where
   rank-low zero o = omega arith
   rank-low (suc n) o = omega (arith, rank-low n o, digit-low (literalHolds (getD literals n 0) o), pow-suc 2 n)
 
-  -- three literals give ranks below 8
+  -- with a literal for each line out, ranks are below the number of outputs
   pub rank-small : (n o r : ℕ) → r ≡ rankBy literals n o → n ≤ maxOutputs → r < maxOuts
-  rank-small n o r e h = let most : 2 ^ n ≤ 2 ^ 3 = pow-mono {j = 3} h in omega (arith, rank-low n o)
+  rank-small n o r e h = let most : 2 ^ n ≤ maxOuts = pow-mono {j = maxOutputs} h in omega (arith, rank-low n o)
 
   -- the literals before n hold of both outputs or of neither
   abbrev Alike : ℕ → ℕ → ℕ → Type 0
