@@ -1,5 +1,6 @@
 //! What is timed of the makers: groups of sheets, and for each what it comes to.
 
+use conformance::orders::orders;
 use conformance::{generate, Random};
 use reference::{Kept, Product, Refusal, Sheet, GUARD_BYTES_MOST};
 
@@ -101,7 +102,16 @@ fn size(sheets: &[Vec<u8>]) -> String {
 
 /// All groups of rows.
 pub fn all() -> Vec<Group> {
-    vec![general(), lost(), few_letters(), refused(), one_hash(), shields(), long_horizons()]
+    vec![
+        general(),
+        lost(),
+        ties(),
+        few_letters(),
+        refused(),
+        one_hash(),
+        shields(),
+        long_horizons(),
+    ]
 }
 
 fn general() -> Group {
@@ -128,6 +138,15 @@ fn lost() -> Group {
         ("longest, 2 letters", generate::longest_play(0, 1)),
     ];
     Group::by(PLAY, "unrealizable", rows.map(named).into())
+}
+
+/// One state, in which all outputs are equally good: every order of the lines, made one after the other.
+fn ties() -> Group {
+    let row = |lines| {
+        let sheets: Vec<Vec<u8>> = orders(lines).iter().map(|order| sheets::tied(order)).collect();
+        Row::new(&format!("{lines} out, {} orders", sheets.len()), sheets, TABLES)
+    };
+    Group { name: "ties", rows: vec![row(1), row(2), row(3)] }
 }
 
 fn few_letters() -> Group {

@@ -2,7 +2,7 @@
 //!
 //! Where a counter isn't the point of a sheet it makes the sheet as large as it shall be.
 
-use guard::sheet::Sheet;
+use guard::sheet::{Literal, Sheet};
 
 /// The parts that several sheets have.
 trait Parts {
@@ -38,6 +38,11 @@ impl Parts for Sheet {
 /// A controller with lines in and out.
 fn controller(lines_in: u8, outputs: u8, horizon: u8) -> Sheet {
     Sheet::controller(lines_in, outputs).horizon(horizon)
+}
+
+/// A controller without lines in and without monitors, with this order of preference.
+pub fn tied(order: &[Literal]) -> Vec<u8> {
+    controller(0, order.len() as u8, 0).prefer(order).to_bytes()
 }
 
 /// Sheet A of the notebook.

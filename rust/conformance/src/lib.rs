@@ -2,12 +2,13 @@
 //!
 //! [`vectors`] runs a file of expected answers against a [`Subject`]; [`generate`] makes sheets,
 //! tables and boards, sound and damaged, for the property tests in `tests/`, [`work`] the memory that
-//! the makers are lent there, [`making`] compares one call of a maker, and [`monitors`] tells what a step
-//! breaks.
+//! the makers are lent there, [`making`] compares one call of a maker, [`monitors`] tells what a step
+//! breaks, and [`orders`] which of several outputs is preferred.
 
 pub mod generate;
 pub mod making;
 pub mod monitors;
+pub mod orders;
 pub mod random;
 pub mod subject;
 pub mod vectors;

@@ -1,6 +1,6 @@
 //! What the lines, monitors and states of a sheet are called.
 
-use guard::sheet::{Mode, Role, Sheet};
+use guard::sheet::{Literal, Mode, Role, Sheet};
 
 /// A monitor's name and those of its states.
 #[derive(Clone, Debug, Default, PartialEq, Eq)]
@@ -65,6 +65,13 @@ impl Names {
     /// An output by names: `open !heat`.
     pub fn output(&self, output: u8) -> String {
         setting(&self.lines_out, output)
+    }
+
+    /// The preferences by names, the most important first: `!heat, open`.
+    pub fn preferences(&self, prefer: &[Literal]) -> String {
+        let name = |line: u8| &self.lines_out[usize::from(line)];
+        let order = prefer.iter().map(|preferred| literal(name(preferred.line), preferred.on));
+        order.collect::<Vec<_>>().join(", ")
     }
 
     /// A guard's input by names: of a shield `tray / open`, site and proposal; `any` where there is

@@ -13,6 +13,7 @@ fn help_is_an_answer() {
         "show",
         "check",
         "forced",
+        "order",
         "list",
         "supervisor",
         "forecast",
@@ -213,7 +214,7 @@ fn files_are_taken_for_their_content() {
     let guard_table = reference::guard_table(&bytes).expect("accepted");
     let supervisor_table = reference::supervisor_table(&bytes).expect("accepted");
     for (table, kind) in [(guard_table, "guard"), (supervisor_table, "supervisor")] {
-        for command in ["check", "show", "forced", "supervisor", "forecast", "compile"] {
+        for command in ["check", "show", "forced", "order", "supervisor", "forecast", "compile"] {
             let done = guard(&[command, "-"], &table);
             assert!(done.err.contains(&format!("as a {kind} table does")), "{}", done.err);
             assert_eq!((done.status, done.text().contains("bytes")), (1, false), "{command}");

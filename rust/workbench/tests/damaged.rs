@@ -110,7 +110,8 @@ fn no_input_makes_a_command_panic() {
         .into_iter()
         .map(|path| std::fs::read(path).expect("a sheet"))
         .collect();
-    let commands = ["compile", "show", "check", "forced", "list", "supervisor", "forecast", "dot"];
+    let commands =
+        ["compile", "show", "check", "forced", "order", "list", "supervisor", "forecast", "dot"];
     let mut statuses = [0; 4];
     for case in 0..cases(100_000) {
         let mut random = Random::new(seed(), case);

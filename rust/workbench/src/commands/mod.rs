@@ -7,6 +7,7 @@ mod forced;
 mod forecast;
 mod list;
 mod make;
+mod order;
 mod run;
 mod show;
 mod supervisor;
@@ -37,6 +38,7 @@ pub const COMMANDS: &[Command] = &[
     show::COMMAND,
     check::COMMAND,
     forced::COMMAND,
+    order::COMMAND,
     list::COMMAND,
     supervisor::COMMAND,
     forecast::COMMAND,

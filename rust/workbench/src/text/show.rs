@@ -8,7 +8,7 @@ use guard::sheet::{Mode, Monitor, Role};
 use super::condition::Letters;
 use super::cover::condition;
 use super::Named;
-use crate::names::{literal, role_word, MonitorNames};
+use crate::names::{role_word, MonitorNames};
 
 /// The text of a sheet in bounds: every state and row, in order.
 pub fn show(named: &Named) -> String {
@@ -31,9 +31,7 @@ fn write_sheet(text: &mut String, named: &Named) -> fmt::Result {
     if sheet.mode == Mode::Shield {
         writeln!(text, "match {}", sheet.match_weight)?;
     }
-    let order = sheet.prefer.iter();
-    let order = order.map(|line| literal(&names.lines_out[usize::from(line.line)], line.on));
-    writeln!(text, "prefer {}", order.collect::<Vec<_>>().join(", "))?;
+    writeln!(text, "prefer {}", names.preferences(&sheet.prefer))?;
     for (monitor, monitor_names) in sheet.monitors.iter().zip(&names.monitors) {
         write_monitor(text, monitor, monitor_names, &names.read_by(monitor.role))?;
     }
