@@ -1,4 +1,5 @@
 // The sheet's output order: ties go to the output whose first literal holds, then the second, and so on.
+// A rank is found without a branch, by a formula to be read beside the wiring plan.
 use records::limits::Limits;
 ghost use mathlib.Core.Path.{_≡_};
 ghost use mathlib.Core.Bool.{cond};

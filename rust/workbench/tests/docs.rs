@@ -1,5 +1,5 @@
 //! docs/SHEETS.md and README.md: their sheets compile as those of the repository, their taps are
-//! answered, their cards forecast and their plays told as they say.
+//! answered, their cards forecast, their plays and orders told as they say.
 
 mod common;
 
@@ -105,6 +105,15 @@ fn the_plays_are_as_told() {
         let told = guard(&[command, &file], b"").text().replace(&file, "sheets/P3.sheet");
         assert_eq!(shown.trim_end(), told.trim_end(), "{command}");
     }
+}
+
+#[test]
+#[cfg_attr(not(guard_library), ignore = "needs the library: rt staticlib hundlezoqa_c")]
+fn the_order_is_as_told() {
+    let document = std::fs::read_to_string(repository("docs/SHEETS.md")).expect("there");
+    let blocks = blocks(section(&document, "### What the guard chooses"));
+    let shown = blocks.iter().find(|block| block.starts_with("prefer")).expect("an order");
+    assert_eq!(shown.trim_end(), guard(&["order", &sheet("P8.sheet")], b"").text().trim_end());
 }
 
 /// README's sheet is sheet A, with other comments.

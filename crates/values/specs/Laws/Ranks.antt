@@ -4,7 +4,7 @@ use mathlib.Core.Path.{_≡_, refl, sym, _∙_}
 use mathlib.Core.Logic.{_↔_}
 use mathlib.Core.Bool.{Bool, true, false, cond}
 use mathlib.Core.List.{List}
-use Prim.Native.Nat.{ℕ, zero, suc, _+_, _*_, _/_, _%_, _^_, _≤_, _<_}
+use Prim.Native.Nat.{ℕ, zero, suc, _+_, _-_, _*_, _/_, _%_, _^_, _≤_, _<_}
 use native.Mathlib.Nat.{pow-suc, mod-lt}
 use native.Mathlib.Decide.{decLt}
 use native.Mathlib.Numerals.{add-one}
@@ -43,16 +43,15 @@ digit-less true b h = absurd (omega (arith, digit-low b))
 digit-less false true h = (refl, refl)
 digit-less false false h = absurd (omega arith)
 
--- a bit left alone, and turned over
-left : (bit : ℕ) → bit < 2 → bitXor bit 0 ≡ digit (eqb bit 1)
-left zero h = refl
-left (suc zero) h = refl
-left (suc (suc bit)) h = absurd (omega arith)
-
-over : (bit : ℕ) → bit < 2 → bitXor bit 1 ≡ digit (eqb bit 0)
-over zero h = refl
-over (suc zero) h = refl
-over (suc (suc bit)) h = absurd (omega arith)
+-- a bit, turned over where off is 1, is 1 exactly if it is the other of off
+turned : (bit off : ℕ) → bit < 2 → off < 2 → bitXor bit off ≡ digit (eqb bit (1 - off))
+turned zero zero h k = refl
+turned zero (suc zero) h k = refl
+turned (suc zero) zero h k = refl
+turned (suc zero) (suc zero) h k = refl
+turned zero (suc (suc off)) h k = absurd (omega arith)
+turned (suc zero) (suc (suc off)) h k = absurd (omega arith)
+turned (suc (suc bit)) off h k = absurd (omega arith)
 
 -- a literal's digit without a test: its line's bit, turned over where off is preferred
 pub digit-turned : (literal o line off : ℕ) → line ≡ literal % 8 → (literal < 8 → off ≡ 0) → (8 ≤ literal → off ≡ 1)
@@ -63,8 +62,8 @@ digit-turned literal o line off l below from =
     let small : bit < 2 = mod-lt _ (omega arith) in
     rw l
     (by-test (ltb literal 8)
-    (λ t. rw (t, below (ltb-true literal 8 t)) (left bit small))
-    (λ t. rw (t, from (ltb-false literal 8 t)) (over bit small)))
+    (λ t. rw (t, below (ltb-true literal 8 t)) (turned bit 0 small (omega arith)))
+    (λ t. rw (t, from (ltb-false literal 8 t)) (turned bit 1 small (omega arith))))
 
 pub digit-small : (literal o r : ℕ) → r ≡ cond (literalHolds literal o) 1 0 → r < 2
 digit-small literal o r e = omega (arith, digit-low (literalHolds literal o))
@@ -132,7 +131,7 @@ module _ (literals : List ℕ) where
       let same : rankBy literals n o ≡ rankBy literals n q = alike-rank n o q (rw l at a) in
       rw (same, rw l at t, rw l at f) (omega arith))
 
-  -- the rank is the output order
+  -- the ranks follow the output order, whatever the literals and the outputs are
   pub rank-order : (o q : ℕ) → (rank literals q < rank literals o) ↔ Higher literals o q
   unfolding rank
   rank-order o q = (
@@ -151,7 +150,7 @@ rank-front literals n o = rw length-tab (go n (omega arith))
     go zero h = refl
     go (suc m) h = rw (go m (omega arith), getD-tab n (λ j. getD literals j 0) m 0 h)
 
--- ---- each line named once: no two outputs have the same rank
+-- ---- a list of any length in which each line stands once: no two outputs have the same rank
 
 -- a literal tells its line's bit
 holds-bit : (literal o q : ℕ) → literalHolds literal o ≡ literalHolds literal q → o / 2 ^ (literal % 8) % 2 ≡ q / 2 ^ (literal % 8) % 2
