@@ -4,3 +4,4 @@ pub mod Iterating
 pub mod Leaders
 pub mod Leading
 pub mod Offers
+pub mod Ranking

@@ -1,18 +1,16 @@
 // The sheet's output order: ties go to the output whose first literal holds, then the second, and so on.
-// A rank is found without a branch, by a formula to be read beside the wiring plan.
+// No branch asks for a literal or a line: a rank is a formula over the bits.
 use records::limits::Limits;
 ghost use mathlib.Core.Path.{_≡_};
-ghost use mathlib.Core.Bool.{cond};
 ghost use Prim.Native.Nat.{_≤_};
 ghost use Rattle.records.specs.Meaning.Limits.{maxOutputs, maxOuts};
 ghost use Rattle.records.specs.Meaning.Lists.{tab};
-ghost use Rattle.values.specs.Meaning.Order.{literalHolds};
-ghost use Rattle.values.specs.Model.Rank.{rankBy};
+ghost use Rattle.values.specs.Model.Rank.{literalDigit, rankBy};
 
 // 1 if a literal holds of an output, 0 if not: its line's bit, turned over where off is preferred.
 // `off` is 0 for a literal below 8 and 1 from 8 on.
 pub fn digit_of(literal: u8, o: usize) -> usize
-    ensures { λ r. ⌜ r ≡ cond (literalHolds literal o) 1 0 ⌝ }
+    ensures { λ r. ⌜ r ≡ literalDigit literal o ⌝ }
 {
     let bit = (o >> (literal % 8)) % 2;
     let off = (literal as usize + 248) / 256;

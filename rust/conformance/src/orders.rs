@@ -37,14 +37,18 @@ pub fn earning(order: &[Literal], outputs: &[u8]) -> Sheet {
     Sheet::controller(0, order.len() as u8).prefer(order).soft(1, 2, |state| state == 1, next)
 }
 
+/// Whether the output has the line as preferred.
+pub fn holds(literal: Literal, output: u8) -> bool {
+    (output >> literal.line & 1 == 1) == literal.on
+}
+
 /// The output that the order asks for: of those left, the ones that have the first line as preferred, if
 /// there are any; of these the ones that have the second; and so on.
 pub fn preferred(order: &[Literal], outputs: &[u8]) -> u8 {
     let mut left = outputs.to_vec();
-    for literal in order {
-        let as_preferred = |output: &u8| (output >> literal.line & 1 == 1) == literal.on;
-        if left.iter().any(as_preferred) {
-            left.retain(as_preferred);
+    for &literal in order {
+        if left.iter().any(|&output| holds(literal, output)) {
+            left.retain(|&output| holds(literal, output));
         }
     }
     assert_eq!(left.len(), 1, "each line once leaves one output");

@@ -31,11 +31,13 @@ fn hold(given: impl Fn(&[u8]) -> u8) -> usize {
     count
 }
 
-/// The first entry's output of a guard table.
+/// What stands before the first entry's output in a guard table: the head's record, and the first row's
+/// header.
+const HEAD: usize = 4 + 6;
+const HEADER: usize = 4;
+
 fn first_output(table: Result<Vec<u8>, reference::Refusal>) -> u8 {
-    let guard = table.expect("accepted");
-    // Head record, then the first row's header.
-    guard[4 + 6 + 4]
+    table.expect("accepted")[HEAD + HEADER]
 }
 
 /// 2, 8 and 48 orders, each with 3, 15 and 255 sets, in two kinds of sheets.

@@ -2,8 +2,8 @@
 
 mod common;
 
-use common::{guard, hexadecimal, setting, sheet};
-use conformance::orders::{orders, sequence};
+use common::{guard, hexadecimal, setting};
+use conformance::orders::{holds, orders, sequence};
 use conformance::{cases, generate, seed, Random};
 use guard::sheet::{Literal, Sheet};
 
@@ -15,8 +15,7 @@ fn expected(order: &[Literal]) -> String {
     let mut text = format!("prefer {}\n", names.collect::<Vec<_>>().join(", "));
     for (place, output) in sequence(order).into_iter().enumerate() {
         // A digit for each preference: 1 if the output has the line as preferred.
-        let as_preferred = |literal: &Literal| (output >> literal.line & 1 == 1) == literal.on;
-        let digits = order.iter().map(|literal| if as_preferred(literal) { '1' } else { '0' });
+        let digits = order.iter().map(|&literal| if holds(literal, output) { '1' } else { '0' });
         let (rank, digits) = ((1 << lines) - 1 - place, digits.collect::<String>());
         let setting = setting("out", lines, output);
         text += &format!("rank {rank}  {digits}  output {output}  {setting}\n");
@@ -60,12 +59,4 @@ fn every_sheet_in_bounds_has_its_order() {
         told[usize::from(reference::guard_table(&bytes).is_err())] += 1;
     }
     assert!(told.iter().all(|&count| count > 100) && refused > 100, "{told:?}, {refused}");
-}
-
-#[test]
-#[cfg_attr(not(guard_library), ignore = "needs the library: rt staticlib hundlezoqa_c")]
-fn names_are_the_sheet_s() {
-    let done = guard(&["order", &sheet("A.sheet")], b"");
-    let text = "prefer open\nrank 1  1  output 1  open\nrank 0  0  output 0  !open\n";
-    assert_eq!((done.status, done.text().as_str()), (0, text));
 }

@@ -1,20 +1,16 @@
--- Laws of the rank: it orders outputs as document 01's output order does, and no two outputs have the same.
+-- Laws of the rank: ranks follow document 01's output order, and where each line stands once no two outputs have the same.
 -- Assumes nothing.
 use mathlib.Core.Path.{_≡_, refl, sym, _∙_}
 use mathlib.Core.Logic.{_↔_}
 use mathlib.Core.Bool.{Bool, true, false, cond}
 use mathlib.Core.List.{List}
-use Prim.Native.Nat.{ℕ, zero, suc, _+_, _-_, _*_, _/_, _%_, _^_, _≤_, _<_}
+use Prim.Native.Nat.{ℕ, zero, suc, _/_, _%_, _^_, _≤_, _<_}
 use native.Mathlib.Nat.{pow-suc, mod-lt}
 use native.Mathlib.Decide.{decLt}
-use native.Mathlib.Numerals.{add-one}
 use native.Mathlib.Omega.{arith}
 use lib.Dec.{ltb, eqb}
 use lib.ListN.{length, getD}
-use lib.Pow.{pow-mono}
-use lib.Bits.{bitXor}
-use borrow.Author.Tests.{ltb-true, ltb-false, eqb-true, eqb-false}
-use Rattle.records.specs.Meaning.Limits.{maxOutputs, maxOuts}
+use borrow.Author.Tests.{eqb-true, eqb-false}
 use Rattle.records.specs.Laws.Tests.{by-test}
 use Rattle.records.specs.Laws.Bounded.{cases-suc}
 use Rattle.records.specs.Laws.Bits.{same-bits}
@@ -25,67 +21,29 @@ use Rattle.values.specs.Meaning.Order.{literalHolds, Higher}
 use Rattle.values.specs.Model.Rank.{rankBy, rank}
 
 -- a truth as a digit
-abbrev digit : Bool → ℕ
-digit b = cond b 1 0
+abbrev truth : Bool → ℕ
+truth b = cond b 1 0
 
-digit-low : (b : Bool) → digit b ≤ 1
-digit-low true = omega arith
-digit-low false = omega arith
+truth-low : (b : Bool) → truth b ≤ 1
+truth-low true = omega arith
+truth-low false = omega arith
 
-digit-same : (a b : Bool) → digit a ≡ digit b → a ≡ b
-digit-same true true e = refl
-digit-same true false e = absurd (omega arith)
-digit-same false true e = absurd (omega arith)
-digit-same false false e = refl
+truth-same : (a b : Bool) → truth a ≡ truth b → a ≡ b
+truth-same true true e = refl
+truth-same true false e = absurd (omega arith)
+truth-same false true e = absurd (omega arith)
+truth-same false false e = refl
 
-digit-less : (a b : Bool) → digit a < digit b → (a ≡ false) × (b ≡ true)
-digit-less true b h = absurd (omega (arith, digit-low b))
-digit-less false true h = (refl, refl)
-digit-less false false h = absurd (omega arith)
-
--- a bit, turned over where off is 1, is 1 exactly if it is the other of off
-turned : (bit off : ℕ) → bit < 2 → off < 2 → bitXor bit off ≡ digit (eqb bit (1 - off))
-turned zero zero h k = refl
-turned zero (suc zero) h k = refl
-turned (suc zero) zero h k = refl
-turned (suc zero) (suc zero) h k = refl
-turned zero (suc (suc off)) h k = absurd (omega arith)
-turned (suc zero) (suc (suc off)) h k = absurd (omega arith)
-turned (suc (suc bit)) off h k = absurd (omega arith)
-
--- a literal's digit without a test: its line's bit, turned over where off is preferred
-pub digit-turned : (literal o line off : ℕ) → line ≡ literal % 8 → (literal < 8 → off ≡ 0) → (8 ≤ literal → off ≡ 1)
-    → bitXor (o / 2 ^ line % 2) off ≡ cond (literalHolds literal o) 1 0
-unfolding literalHolds
-digit-turned literal o line off l below from =
-    let bit : ℕ = o / 2 ^ (literal % 8) % 2 in
-    let small : bit < 2 = mod-lt _ (omega arith) in
-    rw l
-    (by-test (ltb literal 8)
-    (λ t. rw (t, below (ltb-true literal 8 t)) (turned bit 0 small (omega arith)))
-    (λ t. rw (t, from (ltb-false literal 8 t)) (turned bit 1 small (omega arith))))
-
-pub digit-small : (literal o r : ℕ) → r ≡ cond (literalHolds literal o) 1 0 → r < 2
-digit-small literal o r e = omega (arith, digit-low (literalHolds literal o))
+truth-less : (a b : Bool) → truth a < truth b → (a ≡ false) × (b ≡ true)
+truth-less true b h = absurd (omega (arith, truth-low b))
+truth-less false true h = (refl, refl)
+truth-less false false h = absurd (omega arith)
 
 module _ (literals : List ℕ) where
-  -- as a loop that counts up finds it
-  pub rank-none : (o : ℕ) → rankBy literals 0 o ≡ 0
-  unfolding rankBy
-  rank-none o = refl
-
-  pub rank-more : (n o : ℕ) → rankBy literals (n + 1) o ≡ 2 * rankBy literals n o + cond (literalHolds (getD literals n 0) o) 1 0
-  unfolding rankBy
-  rank-more n o = rw add-one
-
   pub rank-low : (n o : ℕ) → rankBy literals n o < 2 ^ n
   unfolding rankBy
   rank-low zero o = omega arith
-  rank-low (suc n) o = omega (arith, rank-low n o, digit-low (literalHolds (getD literals n 0) o), pow-suc 2 n)
-
-  -- with a literal for each line out, ranks are below the number of outputs
-  pub rank-small : (n o r : ℕ) → r ≡ rankBy literals n o → n ≤ maxOutputs → r < maxOuts
-  rank-small n o r e h = let most : 2 ^ n ≤ maxOuts = pow-mono {j = maxOutputs} h in omega (arith, rank-low n o)
+  rank-low (suc n) o = omega (arith, rank-low n o, truth-low (literalHolds (getD literals n 0) o), pow-suc 2 n)
 
   -- the literals before n hold of both outputs or of neither
   abbrev Alike : ℕ → ℕ → ℕ → Type 0
@@ -100,9 +58,9 @@ module _ (literals : List ℕ) where
   unfolding rankBy
   rank-alike zero o q e j h = absurd (omega arith)
   rank-alike (suc n) o q e j h =
-      let x : digit (literalHolds (getD literals n 0) o) ≤ 1 = digit-low (literalHolds (getD literals n 0) o) in
-      let y : digit (literalHolds (getD literals n 0) q) ≤ 1 = digit-low (literalHolds (getD literals n 0) q) in
-      cases-suc j n h (rank-alike n o q (omega arith) j) (λ i. rw i (digit-same _ _ (omega arith)))
+      let x : truth (literalHolds (getD literals n 0) o) ≤ 1 = truth-low (literalHolds (getD literals n 0) o) in
+      let y : truth (literalHolds (getD literals n 0) q) ≤ 1 = truth-low (literalHolds (getD literals n 0) q) in
+      cases-suc j n h (rank-alike n o q (omega arith) j) (λ i. rw i (truth-same _ _ (omega arith)))
 
   -- a smaller rank, and the first literal at which the outputs differ
   rank-higher : (n o q : ℕ) → rankBy literals n q < rankBy literals n o
@@ -114,9 +72,9 @@ module _ (literals : List ℕ) where
         | yes l ↦
             let r = rank-higher n o q l in (r .0, omega (arith, r .1), r .2, r .3, r .4)
         | no l ↦
-            let x : digit (literalHolds (getD literals n 0) o) ≤ 1 = digit-low (literalHolds (getD literals n 0) o) in
-            let y : digit (literalHolds (getD literals n 0) q) ≤ 1 = digit-low (literalHolds (getD literals n 0) q) in
-            let less = digit-less (literalHolds (getD literals n 0) q) (literalHolds (getD literals n 0) o) (omega arith) in
+            let x : truth (literalHolds (getD literals n 0) o) ≤ 1 = truth-low (literalHolds (getD literals n 0) o) in
+            let y : truth (literalHolds (getD literals n 0) q) ≤ 1 = truth-low (literalHolds (getD literals n 0) q) in
+            let less = truth-less (literalHolds (getD literals n 0) q) (literalHolds (getD literals n 0) o) (omega arith) in
             (n, omega arith, rank-alike n o q (omega arith), less .1, less .0)
       ]
 
@@ -126,7 +84,7 @@ module _ (literals : List ℕ) where
   higher-rank zero o q at h a t f = absurd (omega arith)
   higher-rank (suc n) o q at h a t f =
       cases-suc at n h
-      (λ l. omega (arith, higher-rank n o q at l a t f, digit-low (literalHolds (getD literals n 0) q)))
+      (λ l. omega (arith, higher-rank n o q at l a t f, truth-low (literalHolds (getD literals n 0) q)))
       (λ l.
       let same : rankBy literals n o ≡ rankBy literals n q = alike-rank n o q (rw l at a) in
       rw (same, rw l at t, rw l at f) (omega arith))
@@ -150,14 +108,14 @@ rank-front literals n o = rw length-tab (go n (omega arith))
     go zero h = refl
     go (suc m) h = rw (go m (omega arith), getD-tab n (λ j. getD literals j 0) m 0 h)
 
--- ---- a list of any length in which each line stands once: no two outputs have the same rank
+-- ---- each line stands once, however many there are: no two outputs have the same rank
 
 -- a literal tells its line's bit
 holds-bit : (literal o q : ℕ) → literalHolds literal o ≡ literalHolds literal q → o / 2 ^ (literal % 8) % 2 ≡ q / 2 ^ (literal % 8) % 2
 unfolding literalHolds
 holds-bit literal o q e =
     go (o / 2 ^ (literal % 8) % 2) (q / 2 ^ (literal % 8) % 2) (cond (ltb literal 8) 1 0)
-    (mod-lt _ (omega arith)) (mod-lt _ (omega arith)) (digit-low (ltb literal 8)) e
+    (mod-lt _ (omega arith)) (mod-lt _ (omega arith)) (truth-low (ltb literal 8)) e
   where
     go : (a b w : ℕ) → a < 2 → b < 2 → w ≤ 1 → eqb a w ≡ eqb b w → a ≡ b
     go a b w ha hb hw e =
@@ -168,13 +126,20 @@ holds-bit literal o q e =
         let y : b ≡ w → ⊥ = eqb-false b w (sym e ∙ t) in
         omega arith)
 
-pub rank-injective : (literals : List ℕ) (n : ℕ) → length literals ≡ n
-    → ((j : ℕ) → j < n → getD literals j 0 % 8 < n)
-    → ((i j : ℕ) → i < j → j < n → getD literals i 0 % 8 ≡ getD literals j 0 % 8 → ⊥)
-    → (o q : ℕ) → o < 2 ^ n → q < 2 ^ n → rank literals o ≡ rank literals q → o ≡ q
-unfolding rank
-rank-injective literals n size low once o q ho hq e =
-    same-bits n o q ho hq (λ m h.
-    let r = onto n (λ j. getD literals j 0 % 8) low once m h in
-    let alike = rank-alike literals n o q (rw size at e) (r .0) (r .1) in
-    rw (r .2) at (holds-bit (getD literals (r .0) 0) o q alike))
+module _ (literals : List ℕ) (n : ℕ) (size : length literals ≡ n)
+    (low : (j : ℕ) → j < n → getD literals j 0 % 8 < n)
+    (once : (i j : ℕ) → i < j → j < n → getD literals i 0 % 8 ≡ getD literals j 0 % 8 → ⊥) where
+  pub rank-injective : (o q : ℕ) → o < 2 ^ n → q < 2 ^ n → rank literals o ≡ rank literals q → o ≡ q
+  unfolding rank
+  rank-injective o q ho hq e =
+      same-bits n o q ho hq (λ m h.
+      let r = onto n (λ j. getD literals j 0 % 8) low once m h in
+      let alike = rank-alike literals n o q (rw size at e) (r .0) (r .1) in
+      rw (r .2) at (holds-bit (getD literals (r .0) 0) o q alike))
+
+  -- and each number below 2^n is the rank of one
+  pub rank-onto : (m : ℕ) → m < 2 ^ n → (o : ℕ) × (o < 2 ^ n) × (rank literals o ≡ m)
+  unfolding rank
+  rank-onto =
+      onto (2 ^ n) (rank literals) (λ o h. rw size (rank-low literals n o))
+      (λ o q l h e. absurd (omega (arith, rank-injective o q (omega arith) h e)))

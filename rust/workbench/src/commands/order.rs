@@ -15,9 +15,9 @@ pub const COMMAND: Command = Command {
     about: "the outputs in the order of preference, with their ranks",
     help: "\
 Where several outputs are equally good the guard gives the one of the highest rank. A rank has a digit
-for each preference, the first highest: 1 if the output has that line as preferred. The order is the
-proved library's: which output its guard gives where only those left may be given. Should the reader
-that tells names have another order, none is told and the exit status is 3.
+for each preference, the first the highest: 1 if the output has that line as preferred. The order is
+the proved library's: which output its guard gives where only those left may be given. It is told
+only where an independent implementation has the same; else the exit status is 3.
 ",
     files: 1,
     options: &[],
@@ -47,15 +47,14 @@ fn run(arguments: &Arguments, bench: &mut Bench) -> Outcome {
 /// may not give.
 fn by_library(prefer: &[Literal]) -> Vec<u8> {
     let mut work = Work::new();
-    let mut left: Vec<u8> = (0..1 << prefer.len()).collect();
-    let mut order = Vec::with_capacity(left.len());
-    while let Some(place) = chosen(prefer, &left, &mut work) {
-        order.push(left.remove(place));
-    }
-    order
+    let outputs = 0..1 << prefer.len();
+    let mut left: Vec<u8> = outputs.clone().collect();
+    outputs
+        .map_while(|_| chosen(prefer, &left, &mut work).map(|place| left.remove(place)))
+        .collect()
 }
 
-/// The place of the output that a guard gives where only these may be given; nothing if there are none.
+/// The place of the output that a guard gives where only these may be given.
 fn chosen(prefer: &[Literal], left: &[u8], work: &mut Work) -> Option<usize> {
     let next = |_, output| u8::from(!left.contains(&output));
     let sheet = Sheet::controller(0, prefer.len() as u8).prefer(prefer);

@@ -1,7 +1,7 @@
 -- `values::order::digit_of`: the formula. Assumes nothing.
 use native.Mathlib.Omega.{arith}
 use borrow.Author.Needs.{needs}
-use Rattle.values.specs.Laws.Ranks.{digit-turned}
+use Rattle.values.proofs.Ranking.{digit-turned}
 use Rattle.values.proofs.order.digit_of.Statement.{statement}
 use Rattle.values.proofs.order.digit_of.Tie as tie
 

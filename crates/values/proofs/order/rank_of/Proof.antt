@@ -5,7 +5,7 @@ use native.Mathlib.Omega.{arith}
 use borrow.Author.Needs.{needs}
 use Rattle.records.specs.Meaning.Limits.{maxOuts}
 use Rattle.values.specs.Model.Rank.{rankBy}
-use Rattle.values.specs.Laws.Ranks.{rank-none, rank-more, rank-small, digit-small}
+use Rattle.values.proofs.Ranking.{rank-none, rank-more, rank-small, digit-small}
 use Rattle.values.proofs.order.rank_of.Statement.{statement}
 use Rattle.values.proofs.order.rank_of.Tie as tie
 
@@ -19,7 +19,7 @@ abbrev μ-loop : tie.MeasureT-loop
 abbrev turn : tie.After-digit-of Inv-loop μ-loop → tie.At-loop Inv-loop μ-loop
 turn c = c .before .before
 
--- the rank so far is below the number of outputs, and the digit is a bit
+-- the rank so far is below eight, and the digit is a bit
 small : (c : tie.After-digit-of Inv-loop μ-loop) → (turn c .loop .rank < maxOuts) × (c .digit-of .result < 2)
 small c = (rank-small _ _ _ _ (turn c .loop .inv .1) (omega arith), digit-small _ _ _ (c .digit-of .ensures))
 
