@@ -1,5 +1,5 @@
 // The sheet's output order: ties go to the output whose first literal holds, then the second, and so on.
-// No branch asks for a literal or a line: a rank is a formula over the bits.
+// A rank is arithmetic on the bits, without a branch on a literal or a line.
 use records::limits::Limits;
 ghost use mathlib.Core.Path.{_≡_};
 ghost use Prim.Native.Nat.{_≤_};

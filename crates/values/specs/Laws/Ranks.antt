@@ -21,29 +21,29 @@ use Rattle.values.specs.Meaning.Order.{literalHolds, Higher}
 use Rattle.values.specs.Model.Rank.{rankBy, rank}
 
 -- a truth as a digit
-abbrev truth : Bool → ℕ
-truth b = cond b 1 0
+abbrev digit : Bool → ℕ
+digit b = cond b 1 0
 
-truth-low : (b : Bool) → truth b ≤ 1
-truth-low true = omega arith
-truth-low false = omega arith
+digit-low : (b : Bool) → digit b ≤ 1
+digit-low true = omega arith
+digit-low false = omega arith
 
-truth-same : (a b : Bool) → truth a ≡ truth b → a ≡ b
-truth-same true true e = refl
-truth-same true false e = absurd (omega arith)
-truth-same false true e = absurd (omega arith)
-truth-same false false e = refl
+digit-same : (a b : Bool) → digit a ≡ digit b → a ≡ b
+digit-same true true e = refl
+digit-same true false e = absurd (omega arith)
+digit-same false true e = absurd (omega arith)
+digit-same false false e = refl
 
-truth-less : (a b : Bool) → truth a < truth b → (a ≡ false) × (b ≡ true)
-truth-less true b h = absurd (omega (arith, truth-low b))
-truth-less false true h = (refl, refl)
-truth-less false false h = absurd (omega arith)
+digit-less : (a b : Bool) → digit a < digit b → (a ≡ false) × (b ≡ true)
+digit-less true b h = absurd (omega (arith, digit-low b))
+digit-less false true h = (refl, refl)
+digit-less false false h = absurd (omega arith)
 
 module _ (literals : List ℕ) where
   pub rank-low : (n o : ℕ) → rankBy literals n o < 2 ^ n
   unfolding rankBy
   rank-low zero o = omega arith
-  rank-low (suc n) o = omega (arith, rank-low n o, truth-low (literalHolds (getD literals n 0) o), pow-suc 2 n)
+  rank-low (suc n) o = omega (arith, rank-low n o, digit-low (literalHolds (getD literals n 0) o), pow-suc 2 n)
 
   -- the literals before n hold of both outputs or of neither
   abbrev Alike : ℕ → ℕ → ℕ → Type 0
@@ -58,9 +58,9 @@ module _ (literals : List ℕ) where
   unfolding rankBy
   rank-alike zero o q e j h = absurd (omega arith)
   rank-alike (suc n) o q e j h =
-      let x : truth (literalHolds (getD literals n 0) o) ≤ 1 = truth-low (literalHolds (getD literals n 0) o) in
-      let y : truth (literalHolds (getD literals n 0) q) ≤ 1 = truth-low (literalHolds (getD literals n 0) q) in
-      cases-suc j n h (rank-alike n o q (omega arith) j) (λ i. rw i (truth-same _ _ (omega arith)))
+      let x : digit (literalHolds (getD literals n 0) o) ≤ 1 = digit-low (literalHolds (getD literals n 0) o) in
+      let y : digit (literalHolds (getD literals n 0) q) ≤ 1 = digit-low (literalHolds (getD literals n 0) q) in
+      cases-suc j n h (rank-alike n o q (omega arith) j) (λ i. rw i (digit-same _ _ (omega arith)))
 
   -- a smaller rank, and the first literal at which the outputs differ
   rank-higher : (n o q : ℕ) → rankBy literals n q < rankBy literals n o
@@ -72,9 +72,9 @@ module _ (literals : List ℕ) where
         | yes l ↦
             let r = rank-higher n o q l in (r .0, omega (arith, r .1), r .2, r .3, r .4)
         | no l ↦
-            let x : truth (literalHolds (getD literals n 0) o) ≤ 1 = truth-low (literalHolds (getD literals n 0) o) in
-            let y : truth (literalHolds (getD literals n 0) q) ≤ 1 = truth-low (literalHolds (getD literals n 0) q) in
-            let less = truth-less (literalHolds (getD literals n 0) q) (literalHolds (getD literals n 0) o) (omega arith) in
+            let x : digit (literalHolds (getD literals n 0) o) ≤ 1 = digit-low (literalHolds (getD literals n 0) o) in
+            let y : digit (literalHolds (getD literals n 0) q) ≤ 1 = digit-low (literalHolds (getD literals n 0) q) in
+            let less = digit-less (literalHolds (getD literals n 0) q) (literalHolds (getD literals n 0) o) (omega arith) in
             (n, omega arith, rank-alike n o q (omega arith), less .1, less .0)
       ]
 
@@ -84,7 +84,7 @@ module _ (literals : List ℕ) where
   higher-rank zero o q at h a t f = absurd (omega arith)
   higher-rank (suc n) o q at h a t f =
       cases-suc at n h
-      (λ l. omega (arith, higher-rank n o q at l a t f, truth-low (literalHolds (getD literals n 0) q)))
+      (λ l. omega (arith, higher-rank n o q at l a t f, digit-low (literalHolds (getD literals n 0) q)))
       (λ l.
       let same : rankBy literals n o ≡ rankBy literals n q = alike-rank n o q (rw l at a) in
       rw (same, rw l at t, rw l at f) (omega arith))
@@ -108,14 +108,14 @@ rank-front literals n o = rw length-tab (go n (omega arith))
     go zero h = refl
     go (suc m) h = rw (go m (omega arith), getD-tab n (λ j. getD literals j 0) m 0 h)
 
--- ---- each line stands once, however many there are: no two outputs have the same rank
+-- ---- each line stands once, however many lines there are: no two outputs have the same rank
 
 -- a literal tells its line's bit
 holds-bit : (literal o q : ℕ) → literalHolds literal o ≡ literalHolds literal q → o / 2 ^ (literal % 8) % 2 ≡ q / 2 ^ (literal % 8) % 2
 unfolding literalHolds
 holds-bit literal o q e =
     go (o / 2 ^ (literal % 8) % 2) (q / 2 ^ (literal % 8) % 2) (cond (ltb literal 8) 1 0)
-    (mod-lt _ (omega arith)) (mod-lt _ (omega arith)) (truth-low (ltb literal 8)) e
+    (mod-lt _ (omega arith)) (mod-lt _ (omega arith)) (digit-low (ltb literal 8)) e
   where
     go : (a b w : ℕ) → a < 2 → b < 2 → w ≤ 1 → eqb a w ≡ eqb b w → a ≡ b
     go a b w ha hb hw e =
