@@ -1,7 +1,7 @@
 -- What ranking needs: a literal's digit without a test, and the rank as a loop finds it.
 -- Assumes nothing.
 use mathlib.Core.Path.{_≡_, refl}
-use mathlib.Core.Bool.{Bool, true, false, cond}
+use mathlib.Core.Bool.{cond}
 use mathlib.Core.List.{List}
 use Prim.Native.Nat.{ℕ, zero, suc, _+_, _-_, _*_, _/_, _%_, _^_, _≤_, _<_}
 use native.Mathlib.Nat.{mod-lt}
@@ -16,7 +16,7 @@ use Rattle.records.specs.Meaning.Limits.{maxOutputs, maxOuts}
 use Rattle.records.specs.Laws.Tests.{by-test}
 use Rattle.values.specs.Meaning.Order.{literalHolds}
 use Rattle.values.specs.Model.Rank.{literalDigit, rankBy}
-use Rattle.values.specs.Laws.Ranks.{rank-low}
+use Rattle.values.specs.Laws.Ranks.{digit-low, rank-low}
 
 -- a bit turned over where off is 1: 1 exactly if the two differ
 turned : (bit off : ℕ) → bit < 2 → off < 2 → bitXor bit off ≡ cond (eqb bit (1 - off)) 1 0
@@ -42,11 +42,7 @@ digit-turned literal o line off l below from =
 
 -- a digit is a bit
 pub digit-small : (literal o r : ℕ) → r ≡ literalDigit literal o → r < 2
-digit-small literal o r e = rw e (low (literalHolds literal o))
-  where
-    low : (b : Bool) → cond b 1 0 < 2
-    low true = omega arith
-    low false = omega arith
+digit-small literal o r e = omega (arith, e, digit-low (literalHolds literal o))
 
 module _ (literals : List ℕ) where
   -- as a loop that counts up finds it

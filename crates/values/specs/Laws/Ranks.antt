@@ -24,7 +24,7 @@ use Rattle.values.specs.Model.Rank.{rankBy, rank}
 abbrev digit : Bool → ℕ
 digit b = cond b 1 0
 
-digit-low : (b : Bool) → digit b ≤ 1
+pub digit-low : (b : Bool) → digit b ≤ 1
 digit-low true = omega arith
 digit-low false = omega arith
 
