@@ -100,7 +100,7 @@ module _
         let number : KeptNumber d k = record { low = omega (arith, p .solution .numbering .counted); kept = kept } in
         row-at pick memory e room k h
         ∙ rw here
-        (stored-sum d (few (p .solution)) n game
+        (stored-sum d (few (p .solution)) (fits .ok) n game
         (plan-stored fits p ins outs is-inputs is-outputs gains₀ bonuses₀ earned matched gains-room bonuses-room) x (sheet .horizon) k number)
         ∙ ap (λ (h : ℕ). sumAt pick d h (stateOf d k)) (own-horizon s sheet)
 

@@ -29,7 +29,7 @@ faithful d ok fits realizable h far b e cs lent =
     (nextOf d h)
     (λ x. live x ≡ false) (Stands (guardOver d h)) (runs d fits start (ok .head) h far)
     (List ℕ) (advance d) (firstTuple d) (Move d h) (Winning d) (start-winning d fits realizable h)
-    (move-winning d fits realizable h (ok .head))
+    (move-winning d fits realizable h ok)
     (λ t i o q g u x y.
-    move-is d fits realizable h (ok .head) t i o g u x ∙ sym (move-is d fits realizable h (ok .head) t i q g u y))
-    (tuplesOf d h) (represents d fits realizable h (ok .head)) (Shows d) (stands-shows d fits start (ok .head) h far) b cs e lent
+    move-is d fits realizable h ok t i o g u x ∙ sym (move-is d fits realizable h ok t i q g u y))
+    (tuplesOf d h) (represents d fits realizable h ok) (Shows d) (stands-shows d fits start (ok .head) h far) b cs e lent

@@ -42,12 +42,12 @@ module _ (d : Decoded) (ok : SheetOk d) (fits : stateCount d ≤ maxStates) (rea
   -- the chosen output of a state that is in is the move at its tuple
   chosen-move : (k i : ℕ) → KeptNumber d k → i < inputsOf d → Move d h (stateOf d k) i (chosen (sheetGame d) (choicesOf d h) k i)
   chosen-move k i q hi =
-      rw (choice-is d fits h k q i hi) (choice-moves d fits realizable h (ok .head) (stateOf d k) i (inside-winning d fits k q) hi)
+      rw (choice-is d ok fits h k q i hi) (choice-moves d fits realizable h ok (stateOf d k) i (inside-winning d fits k q) hi)
 
   -- and there is no other
   move-chosen : (k i o : ℕ) → KeptNumber d k → i < inputsOf d → Move d h (stateOf d k) i o → o ≡ chosen (sheetGame d) (choicesOf d h) k i
   move-chosen k i o q hi m =
-      move-is d fits realizable h (ok .head) (stateOf d k) i o (inside-winning d fits k q) hi m ∙ sym (choice-is d fits h k q i hi)
+      move-is d fits realizable h ok (stateOf d k) i o (inside-winning d fits k q) hi m ∙ sym (choice-is d ok fits h k q i hi)
 
   met-chosen : (k : ℕ) → Met d fits h k → Chosen d h (stateOf d k)
   met-chosen k here = rw (first-state d) begin
@@ -112,7 +112,7 @@ module _ (d : Decoded) (ok : SheetOk d) (fits : stateCount d ≤ maxStates) (rea
   -- the model's table has these rows
   pub table-rows : Rows d h (guardCount d h) (guardOver d h)
   table-rows =
-      let r = represents d fits realizable h (ok .head) in
+      let r = represents d fits realizable h ok in
       record {
         tuples = tuplesOf d h;
         count = size;
@@ -131,12 +131,12 @@ module _ (d : Decoded) (ok : SheetOk d) (fits : stateCount d ≤ maxStates) (rea
   -- moves reach winning tuples
   chosen-winning : (t : List ℕ) → Chosen d h t → Winning d t
   chosen-winning t begin = start-winning d fits realizable h
-  chosen-winning t (onward {t = u} i o c hi m) = move-winning d fits realizable h (ok .head) u i o (chosen-winning u c) hi m
+  chosen-winning t (onward {t = u} i o c hi m) = move-winning d fits realizable h ok u i o (chosen-winning u c) hi m
 
   one-move : (t : List ℕ) (i o q : ℕ) → Chosen d h t → i < inputsOf d → Move d h t i o → Move d h t i q → o ≡ q
   one-move t i o q c hi x y =
-      move-is d fits realizable h (ok .head) t i o (chosen-winning t c) hi x
-      ∙ sym (move-is d fits realizable h (ok .head) t i q (chosen-winning t c) hi y)
+      move-is d fits realizable h ok t i o (chosen-winning t c) hi x
+      ∙ sym (move-is d fits realizable h ok t i q (chosen-winning t c) hi y)
 
   generated : (P : List ℕ → Type 0) → P (firstTuple d) → ((t u : List ℕ) (i : ℕ) → Chosen d h t → P t → MoveBy d h t i u → P u)
       → (t : List ℕ) → Chosen d h t → P t

@@ -58,11 +58,11 @@ module _ (d : Decoded) (fits : stateCount d ≤ maxStates) where
       unfolding sheetGame
       same-next = next-agree (sheetGame d) (stateCount d) steps cells dropped gains bonuses holds k i o (q .low) hi ho
 
-      same-earns : mayGive mine k i o ≡ true → earns mine k i o ≡ reward d (stateOf d k) i o
+      same-earns : SheetOk d → mayGive mine k i o ≡ true → earns mine k i o ≡ reward d (stateOf d k) i o
       unfolding sheetGame
-      same-earns e =
+      same-earns ok e =
           sym (earns-agree (sheetGame d) (stateCount d) steps cells dropped gains bonuses holds k i o (q .low) hi ho (given e))
-          ∙ earns-is d fits k i o (q .low) hi ho (given e)
+          ∙ earns-is d fits k i o (q .low) hi ho (given e) ok
 
     plays : Names ℕ (List ℕ) (inputsOf d) (outputsOf d) (cellNext mine) (advance d) (mayGive mine) (mayAt d) (KeptNumber d) (stateOf d)
     plays =
@@ -72,24 +72,25 @@ module _ (d : Decoded) (fits : stateCount d ≤ maxStates) where
           lands = λ k i o q hi ho e. rw (← same-next k i o q hi ho) (next-lands d fits k i o (q .low) hi ho (given k i o q hi ho e));
         }
 
-    held-sum : {R : ℕ → ℕ → Type 0} {pick : Pick} → Picks R pick → (p k : ℕ) → KeptNumber d k
+    held-sum : SheetOk d → {R : ℕ → ℕ → Type 0} {pick : Pick} → Picks R pick → (p k : ℕ) → KeptNumber d k
         → valueBy pick ℕ (inputsOf d) (outputsOf d) (cellNext mine) (mayGive mine) (earns mine) p k ≡ sumAt pick d p (stateOf d k)
-    held-sum x =
+    held-sum ok x =
         value-by-named x ℕ (List ℕ) (inputsOf d) (outputsOf d) (cellNext mine) (advance d) (mayGive mine) (mayAt d) (KeptNumber d)
-        (stateOf d) plays (earns mine) (reward d) (λ k i o q hi ho. same-earns k i o q hi ho)
+        (stateOf d) plays (earns mine) (reward d) (λ k i o q hi ho. same-earns k i o q hi ho ok)
 
   -- a table with other numbers of inputs and outputs
   abbrev with : Game → ℕ → ℕ → Game
   with g a b = record { cells = g .cells; dropped = g .dropped; gains = g .gains; bonuses = g .bonuses; ins = a; outs = b }
 
   -- what a kept state is worth over p steps by the stored table is its tuple's sum
-  pub stored-sum : (n : ℕ) (g : Game) → Stored d n g → {R : ℕ → ℕ → Type 0} {pick : Pick} → Picks R pick → (p k : ℕ) → KeptNumber d k
+  pub stored-sum : SheetOk d → (n : ℕ) (g : Game) → Stored d n g
+      → {R : ℕ → ℕ → Type 0} {pick : Pick} → Picks R pick → (p k : ℕ) → KeptNumber d k
       → valueBy pick ℕ (g .ins) (g .outs) (cellNext g) (mayGive g) (earns g) p k ≡ sumAt pick d p (stateOf d k)
   unfolding sheetGame
-  stored-sum n g s {R} {pick} x p k q =
+  stored-sum ok n g s {R} {pick} x p k q =
       subst₂ (λ (a b : ℕ).
       valueBy pick ℕ a b (cellNext (with g a b)) (mayGive (with g a b)) (earns (with g a b)) p k ≡ sumAt pick d p (stateOf d k))
-      (sym (s .ins)) (sym (s .outs)) (held-sum (g .cells) (g .dropped) (g .gains) (g .bonuses) (s .holds) x p k q)
+      (sym (s .ins)) (sym (s .outs)) (held-sum (g .cells) (g .dropped) (g .gains) (g .bonuses) (s .holds) ok x p k q)
 
   -- ---- ways of answering
 

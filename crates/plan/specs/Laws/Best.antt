@@ -10,7 +10,7 @@ use Rattle.records.specs.Meaning.Limits.{maxStates}
 use Rattle.records.specs.Laws.Bounded.{sum-cong, top-cong}
 use Rattle.records.specs.Laws.Lists.{getD-put-front}
 use Rattle.records.specs.Meaning.Numbers.{zeros}
-use Rattle.sheet.specs.Meaning.Decoded.{Decoded}
+use Rattle.sheet.specs.Meaning.Decoded.{Decoded, SheetOk}
 use Rattle.product.specs.Meaning.Step.{inputsOf, outputsOf, advance, reward}
 use Rattle.product.specs.Model.ProductNumbering.{stateCount, stateOf}
 use Rattle.game.specs.Laws.Choice.{choose-cong}
@@ -57,7 +57,7 @@ module _
 
 -- ---- of a sheet
 
-module _ (d : Decoded) (fits : stateCount d ≤ maxStates) where
+module _ (d : Decoded) (ok : SheetOk d) (fits : stateCount d ≤ maxStates) where
   row-is : (h k : ℕ) → KeptNumber d k
       → getD (valuesOf d h) k 0 ≡ value ℕ (inputsOf d) (outputsOf d) (cellNext (sheetGame d)) (mayGive (sheetGame d))
       (earns (sheetGame d)) h k
@@ -74,7 +74,7 @@ module _ (d : Decoded) (fits : stateCount d ≤ maxStates) where
         row-is h k q
         ∙ value-named ℕ (List ℕ) (inputsOf d) (outputsOf d) (cellNext (sheetGame d)) (advance d) (mayGive (sheetGame d)) (mayAt d)
         (KeptNumber d)
-        (stateOf d) (plays d fits) (earns (sheetGame d)) (reward d) (λ j i o r. earns-is d fits j i o (r .low)) h k q
+        (stateOf d) (plays d fits) (earns (sheetGame d)) (reward d) (λ j i o r hi ho t. earns-is d fits j i o (r .low) hi ho t ok) h k q
 
     -- an output that may be given has the score of the tuple's
     pub score-is : (i o : ℕ) → i < inputsOf d → o < outputsOf d → mayGive (sheetGame d) k i o ≡ true
@@ -85,7 +85,7 @@ module _ (d : Decoded) (fits : stateCount d ≤ maxStates) where
         (row-is h (cellNext (sheetGame d) k i o) (next-inside d fits k i o (q .low) hi ho t))
         ∙ score-named ℕ (List ℕ) (inputsOf d) (outputsOf d) (cellNext (sheetGame d)) (advance d) (mayGive (sheetGame d)) (mayAt d)
         (KeptNumber d)
-        (stateOf d) (plays d fits) (earns (sheetGame d)) (reward d) (λ j u v r. earns-is d fits j u v (r .low)) h k i o q hi ho t
+        (stateOf d) (plays d fits) (earns (sheetGame d)) (reward d) (λ j u v r hu hv t. earns-is d fits j u v (r .low) hu hv t ok) h k i o q hi ho t
 
     -- and the output chosen is the tuple's choice
     pub choice-is : (i : ℕ) → i < inputsOf d → chosen (sheetGame d) (choicesOf d h) k i ≡ choiceAt d h (stateOf d k) i
@@ -95,5 +95,5 @@ module _ (d : Decoded) (fits : stateCount d ≤ maxStates) where
         (λ j u o r. next-inside d fits j u o (r .low)) (d .literals) (valuesOf d h) h (row-is h) k i q hi
         ∙ choice-named ℕ (List ℕ) (inputsOf d) (outputsOf d) (cellNext (sheetGame d)) (advance d) (mayGive (sheetGame d)) (mayAt d)
         (KeptNumber d)
-        (stateOf d) (plays d fits) (earns (sheetGame d)) (reward d) (λ j u v r. earns-is d fits j u v (r .low)) (rank (d .literals)) h k i
+        (stateOf d) (plays d fits) (earns (sheetGame d)) (reward d) (λ j u v r hu hv t. earns-is d fits j u v (r .low) hu hv t ok) (rank (d .literals)) h k i
         q hi

@@ -23,13 +23,13 @@ module _ (d : Decoded) where
   pub lines-most : (i o : ℕ) → equalLines d i o ≤ d .outputs
   lines-most i o = rw (← lines-count i o) (count-le (d .outputs) (sameLine o (proposal (d .site) i)))
 
+module _ (d : Decoded) (ok : SheetOk d) where
   -- a reward has two parts: one of the state after the step, one of the letter
   pub reward-parts : (t : List ℕ) (i o : ℕ)
       → reward d t i o ≡ softReward (weightOf d) d (advance d t i o) + matchReward d i o
   unfolding reward rewardBy advance matchReward
   reward-parts t i o = refl
 
-module _ (d : Decoded) (ok : SheetOk d) where
   pub soft-most : (u : List ℕ) → softReward (weightOf d) d u ≤ 1530
   unfolding softReward
   soft-most u =
@@ -53,4 +53,4 @@ module _ (d : Decoded) (ok : SheetOk d) where
       go false = omega arith
 
   pub reward-most : (t : List ℕ) (i o : ℕ) → reward d t i o ≤ 2295
-  reward-most t i o = rw (reward-parts d t i o) (omega (arith, soft-most (advance d t i o), match-most i o))
+  reward-most t i o = rw (reward-parts t i o) (omega (arith, soft-most (advance d t i o), match-most i o))
