@@ -3,6 +3,7 @@ pub mod automaton;
 pub mod letters;
 pub mod monitors;
 pub mod outcome;
+pub mod recovery;
 pub mod rewards;
 pub mod shadows;
 pub mod step;

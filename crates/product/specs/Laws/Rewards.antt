@@ -1,6 +1,6 @@
 -- What a step earns: its parts, and how much at most.
 -- Assumes nothing.
-use mathlib.Core.Path.{_≡_, refl}
+use mathlib.Core.Path.{_≡_, refl, sym, ap}
 use mathlib.Core.Bool.{Bool, true, false, cond, _&&_}
 use mathlib.Core.List.{List}
 use Prim.Native.Nat.{ℕ, _+_, _*_, _≤_, _<_}
@@ -14,6 +14,7 @@ use Rattle.sheet.specs.Meaning.Decoded.{Decoded, monitorOf, SheetOk}
 use Rattle.game.specs.Meaning.Proposal.{proposal}
 use Rattle.product.specs.Meaning.Step.{accepts, advance, equalLines, softReward, rewardBy, weightOf, reward}
 use Rattle.product.specs.Model.Stages.{sameLine, matchReward}
+use Rattle.product.specs.Laws.Recovery.{soft-kept}
 
 module _ (d : Decoded) where
   pub lines-count : (i o : ℕ) → count (d .outputs) (sameLine o (proposal (d .site) i)) ≡ equalLines d i o
@@ -27,8 +28,8 @@ module _ (d : Decoded) (ok : SheetOk d) where
   -- a reward has two parts: one of the state after the step, one of the letter
   pub reward-parts : (t : List ℕ) (i o : ℕ)
       → reward d t i o ≡ softReward (weightOf d) d (advance d t i o) + matchReward d i o
-  unfolding reward rewardBy advance matchReward
-  reward-parts t i o = refl
+  unfolding reward rewardBy matchReward
+  reward-parts t i o = ap (λ (earned : ℕ). earned + matchReward d i o) (sym (soft-kept d t i o ok (weightOf d)))
 
   pub soft-most : (u : List ℕ) → softReward (weightOf d) d u ≤ 1530
   unfolding softReward
