@@ -190,6 +190,9 @@ pub fn game(random: &mut Random, shape: Shape, most: usize) -> Vec<u8> {
 
 /// A sheet that none of 1 to 6 applies to; 7 and 8 may.
 pub fn sheet(random: &mut Random) -> Vec<u8> {
+    if random.once_in(10) {
+        return trusting_shield(random);
+    }
     let shapes = Shape::all();
     let mode = random.pick(&[Mode::Controller, Mode::Shield]);
     let shape = loop {
@@ -224,6 +227,45 @@ pub fn sheet(random: &mut Random) -> Vec<u8> {
         bytes.extend(record);
     }
     bytes
+}
+
+/// A shield whose limit looks at sound proposals, and most of whose hard monitors never accept again
+/// after a break: what it allows hangs on when the copies agree with their monitors again.
+pub fn trusting_shield(random: &mut Random) -> Vec<u8> {
+    let shapes = Shape::all().into_iter().filter(|shape| shape.mode == Mode::Shield);
+    let shape = random.pick(&shapes.collect::<Vec<Shape>>());
+    let mut bytes = head(random, shape);
+    for _ in 0..1 + random.below(2) {
+        bytes.extend(last_breaks(random, shape));
+    }
+    bytes.extend(counted_leaves(1 + random.byte_below(3), random.once_in(3)));
+    bytes
+}
+
+/// A hard monitor whose last state breaks, most often for good.
+fn last_breaks(random: &mut Random, shape: Shape) -> Vec<u8> {
+    let (last, for_good) = (1 + random.below(3), !random.once_in(4));
+    let letters = shape.letters(Role::Hard);
+    let mut next: Vec<u8> =
+        (0..(last + 1) * letters).map(|_| random.below(last + 1) as u8).collect();
+    if for_good {
+        next[last * letters..].fill(last as u8);
+    }
+    let accepts = (0..=last).map(|state| state < last).collect();
+    Monitor { role: Role::Hard, weight: 0, start: 0, accepts, next }.record()
+}
+
+/// A limit on deviations running from sound proposals, or from all; one proposal that passes begins anew.
+fn counted_leaves(most: u8, from_all: bool) -> Vec<u8> {
+    let counted = |letter: u8| letter == 3 || letter == 2 && from_all;
+    let next = |state: u8, letter| match (state == most, counted(letter)) {
+        (true, _) => most,
+        (false, true) => state + 1,
+        (false, false) => 0,
+    };
+    let rows = (0..=most).flat_map(|state| (0..4).map(move |letter| next(state, letter)));
+    let accepts = (0..=most).map(|state| state < most).collect();
+    Monitor { role: Role::Limit, weight: 0, start: 0, accepts, next: rows.collect() }.record()
 }
 
 /// A sheet that is refused 8.

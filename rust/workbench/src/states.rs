@@ -6,7 +6,7 @@
 
 use guard::sheet::{Mode, Role};
 use guard::{Forced, Guard, Supervisor};
-use reference::Product;
+use reference::{Product, Sheet};
 
 use crate::names::MonitorNames;
 use crate::source::Source;
@@ -18,10 +18,20 @@ pub struct MonitorState<'a> {
     pub state: &'a str,
 }
 
+/// What comes of a shield's proposal at a product state.
+#[derive(Clone, Copy, Debug, PartialEq, Eq)]
+pub struct Proposed {
+    pub output: u8,
+    pub sound: bool,
+    /// The product state where it is given; nothing if that is broken.
+    pub given: Option<usize>,
+}
+
 /// The product states of a sheet, with their names.
 pub struct States {
     pub named: Named,
     pub product: Product,
+    read: Sheet,
 }
 
 impl States {
@@ -38,8 +48,26 @@ impl States {
     }
 
     fn of_sheet(source: &Source) -> Option<States> {
-        let product = Product::explore(&reference::Sheet::parse(&source.bytes).ok()?).ok()?;
-        Some(States { named: source.named()?, product })
+        let read = Sheet::parse(&source.bytes).ok()?;
+        let product = Product::explore(&read).ok()?;
+        Some(States { named: source.named()?, product, read })
+    }
+
+    /// The inputs by names, in order, and all of one width.
+    pub fn inputs(&self) -> Vec<String> {
+        let Named { sheet, names } = &self.named;
+        let inputs = (0..1 << sheet.inputs()).map(|input| names.input(sheet.mode, input));
+        let inputs: Vec<String> = inputs.collect();
+        let width = inputs.iter().map(String::len).max().unwrap_or(0);
+        inputs.into_iter().map(|input| format!("{input:<width$}")).collect()
+    }
+
+    /// What a shield's input proposes at a product state, and what comes of it.
+    pub fn proposed(&self, state: usize, input: u8) -> Proposed {
+        let output = input >> self.read.site_lines;
+        let sound = self.read.is_sound(self.product.tuple(state), input);
+        let given = self.product.edge(state, input.into(), output.into()).next();
+        Proposed { output, sound, given }
     }
 
     /// The monitors and their states, by names in order, of a product state; then those of the copies

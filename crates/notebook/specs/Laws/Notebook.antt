@@ -4,10 +4,11 @@ use mathlib.Core.Path.{refl}
 use mathlib.Core.List.{List, [], _∷_}
 use Rattle.sheet.specs.Meaning.Decoded.{encode}
 use Rattle.notebook.specs.Model.Sheets.{decodedA, sheetA, sheet3, sheet4, sheet5, sheet6, sheet7, sheet9, sheet10, idle}
-use Rattle.notebook.specs.Model.Sheets.{limitSheet, letterSheet, soonSheet, bothSheet}
+use Rattle.notebook.specs.Model.Sheets.{limitSheet, strictSheet, letterSheet, soonSheet, bothSheet}
 use Rattle.notebook.specs.Model.Row.{Row, is, are, ordered, AllHold, all-hold}
 use Rattle.notebook.specs.Model.Figures.{supervisorNumber, guardAnswer, forecastNumber, bestSums, leastSums, cardFront, forcedNumber, play, supervisor, guard, states, scores, outputs, deviationsShown}
-use Rattle.notebook.specs.Laws.Opened.{sheets, supervisors, guards, forecasts, plays, boards}
+use Rattle.notebook.specs.Model.Figures.{tupleAfter, formerAfter, tuple, letter, whole}
+use Rattle.notebook.specs.Laws.Opened.{sheets, supervisors, guards, forecasts, plays, runs, boards}
 
 abbrev pub rows : List Row
 rows =
@@ -108,6 +109,46 @@ rows =
     ∷ is (guardAnswer sheet7) 0
     ∷ are (outputs (guard sheet7) (1 ∷ 1 ∷ 1 ∷ 1 ∷ [])) (1 ∷ 0 ∷ 1 ∷ 0 ∷ [])
     ∷ is (deviationsShown (guard sheet7) (1 ∷ 1 ∷ 1 ∷ 1 ∷ [])) 2
+    -- its product states (hard, copy) are 00, 01, 10, 11, 02, 12, and the guard meets 00, 11, 02
+    ∷ are (supervisor sheet7)
+    (5 ∷ 0 ∷ 19 ∷ 0 ∷ 1 ∷ 1 ∷ 1 ∷ 6 ∷ 0
+    ∷ 3 ∷ 0 ∷ 18 ∷ 0 ∷ 1 ∷ 3 ∷ 3
+    ∷ 3 ∷ 0 ∷ 18 ∷ 0 ∷ 1 ∷ 3 ∷ 3
+    ∷ 3 ∷ 0 ∷ 18 ∷ 0 ∷ 1 ∷ 1 ∷ 1
+    ∷ 3 ∷ 0 ∷ 18 ∷ 0 ∷ 1 ∷ 1 ∷ 1
+    ∷ 3 ∷ 0 ∷ 18 ∷ 0 ∷ 1 ∷ 3 ∷ 3
+    ∷ 3 ∷ 0 ∷ 18 ∷ 0 ∷ 1 ∷ 1 ∷ 1
+    ∷ [])
+    ∷ are (guard sheet7)
+    (6 ∷ 0 ∷ 16 ∷ 0 ∷ 1 ∷ 1 ∷ 1 ∷ 0 ∷ 3 ∷ 0
+    ∷ 4 ∷ 0 ∷ 17 ∷ 0 ∷ 0 ∷ 0 ∷ 1 ∷ 1
+    ∷ 4 ∷ 0 ∷ 17 ∷ 0 ∷ 0 ∷ 0 ∷ 0 ∷ 2
+    ∷ 4 ∷ 0 ∷ 17 ∷ 0 ∷ 0 ∷ 0 ∷ 1 ∷ 1
+    ∷ [])
+    -- proposals 1, 1, 0 (N5): the second is unsound and left (letter 2), which changes no copy; the third is unsound and followed
+    -- (letter 0), and the copy agrees with its monitor again; so the fourth, 1, is sound (letter 1). Before N5 it was not
+    ∷ are (outputs (guard sheet7) (1 ∷ 1 ∷ 0 ∷ 1 ∷ [])) (1 ∷ 0 ∷ 0 ∷ 1 ∷ [])
+    ∷ is (letter sheet7 (tupleAfter sheet7 (1 ∷ []) (1 ∷ [])) 1 0) 2
+    ∷ are (tuple sheet7 (tupleAfter sheet7 (1 ∷ 1 ∷ []) (1 ∷ 0 ∷ []))) (0 ∷ 2 ∷ [])
+    ∷ is (letter sheet7 (tupleAfter sheet7 (1 ∷ 1 ∷ []) (1 ∷ 0 ∷ [])) 0 0) 0
+    ∷ are (tuple sheet7 (tupleAfter sheet7 (1 ∷ 1 ∷ 0 ∷ []) (1 ∷ 0 ∷ 0 ∷ []))) (0 ∷ 0 ∷ [])
+    ∷ is (letter sheet7 (tupleAfter sheet7 (1 ∷ 1 ∷ 0 ∷ []) (1 ∷ 0 ∷ 0 ∷ [])) 1 1) 1
+    ∷ are (tuple sheet7 (formerAfter sheet7 (1 ∷ 1 ∷ 0 ∷ []) (1 ∷ 0 ∷ 0 ∷ []))) (0 ∷ 2 ∷ [])
+    ∷ is (letter sheet7 (formerAfter sheet7 (1 ∷ 1 ∷ 0 ∷ []) (1 ∷ 0 ∷ 0 ∷ [])) 1 1) 0
+    -- the same with a limit, by which no sound proposal is left: at the fourth step off would leave one and breaks. Before N5 nothing was
+    -- sound any more, and it did not. Product states (hard, limit, copy): 000, 101, 002, 102
+    ∷ is (supervisorNumber strictSheet) 0
+    ∷ is (guardAnswer strictSheet) 0
+    ∷ are (tuple strictSheet (tupleAfter strictSheet (1 ∷ 1 ∷ 0 ∷ []) (1 ∷ 0 ∷ 0 ∷ []))) (0 ∷ 0 ∷ 0 ∷ [])
+    ∷ is (whole strictSheet (tupleAfter strictSheet (1 ∷ 1 ∷ 0 ∷ []) (1 ∷ 0 ∷ 0 ∷ [])) 1 0) 0
+    ∷ is (whole strictSheet (formerAfter strictSheet (1 ∷ 1 ∷ 0 ∷ []) (1 ∷ 0 ∷ 0 ∷ [])) 1 0) 1
+    ∷ are (supervisor strictSheet)
+    (5 ∷ 0 ∷ 19 ∷ 0 ∷ 1 ∷ 1 ∷ 1 ∷ 4 ∷ 0
+    ∷ 3 ∷ 0 ∷ 18 ∷ 0 ∷ 1 ∷ 1 ∷ 2
+    ∷ 3 ∷ 0 ∷ 18 ∷ 0 ∷ 1 ∷ 1 ∷ 1
+    ∷ 3 ∷ 0 ∷ 18 ∷ 0 ∷ 1 ∷ 3 ∷ 3
+    ∷ 3 ∷ 0 ∷ 18 ∷ 0 ∷ 1 ∷ 1 ∷ 1
+    ∷ [])
     -- P8: two outputs, literals 0, 9: order 1, 3, 0, 2
     ∷ ordered (0 ∷ 9 ∷ []) (1 ∷ 3 ∷ 0 ∷ 2 ∷ [])
     -- P9: inputs 4: H 6 passes, 7 gives 6. Inputs 0: 24 passes, 25 gives 6
@@ -127,21 +168,21 @@ rows =
     ∷ is (supervisorNumber (sheet10 (idle 5 ∷ []))) 5
     ∷ is (guardAnswer (sheet10 (idle 5 ∷ []))) 5
     -- a shield with one site line, off preferred: never on right after on with the site line on; sound proposals are seldom left.
-    -- Product states (hard, limit, shadow): 010, 000, 001, 100, 101, 012, 102. The limit loses 100 and 102: with the site line on, a
-    -- sound proposal of on would have to be left there
+    -- Product states (hard, limit, copy): 010, 000, 001, 100, 101, 012. The limit loses 100: with the site line on, a sound proposal of
+    -- on would have to be left there. At 001 with the site line on, on is unsound and may be followed: it leads to 101, where the copy
+    -- agrees (before N5 to 102, which was lost too)
     ∷ is (supervisorNumber limitSheet) 0
     ∷ is (guardAnswer limitSheet) 0
     ∷ are (supervisor limitSheet)
-    (5 ∷ 0 ∷ 19 ∷ 0 ∷ 1 ∷ 2 ∷ 1 ∷ 7 ∷ 0
+    (5 ∷ 0 ∷ 19 ∷ 0 ∷ 1 ∷ 2 ∷ 1 ∷ 6 ∷ 0
     ∷ 5 ∷ 0 ∷ 18 ∷ 0 ∷ 1 ∷ 1 ∷ 1 ∷ 3 ∷ 3
     ∷ 5 ∷ 0 ∷ 18 ∷ 0 ∷ 1 ∷ 1 ∷ 1 ∷ 2 ∷ 2
-    ∷ 5 ∷ 0 ∷ 18 ∷ 0 ∷ 1 ∷ 1 ∷ 1 ∷ 2 ∷ 1
+    ∷ 5 ∷ 0 ∷ 18 ∷ 0 ∷ 1 ∷ 1 ∷ 1 ∷ 2 ∷ 3
     ∷ 5 ∷ 0 ∷ 18 ∷ 0 ∷ 0 ∷ 0 ∷ 0 ∷ 0 ∷ 0
     ∷ 5 ∷ 0 ∷ 18 ∷ 0 ∷ 1 ∷ 1 ∷ 1 ∷ 2 ∷ 1
     ∷ 5 ∷ 0 ∷ 18 ∷ 0 ∷ 1 ∷ 1 ∷ 1 ∷ 1 ∷ 1
-    ∷ 5 ∷ 0 ∷ 18 ∷ 0 ∷ 0 ∷ 0 ∷ 0 ∷ 0 ∷ 0
     ∷ [])
-    -- so it is realizable, though 100 and 102 break at site line on with on proposed: off the limit, on the hard monitor
+    -- so it is realizable, though 100 breaks at site line on with on proposed: off the limit, on the hard monitor
     ∷ is (forcedNumber limitSheet) 23
     ∷ are (play limitSheet)
     (0 ∷ 0 ∷ 0 ∷ 255 ∷ 255
@@ -150,7 +191,6 @@ rows =
     ∷ 1 ∷ 0 ∷ 3 ∷ 1 ∷ 0
     ∷ 0 ∷ 0 ∷ 0 ∷ 255 ∷ 255
     ∷ 0 ∷ 0 ∷ 0 ∷ 255 ∷ 255
-    ∷ 1 ∷ 0 ∷ 3 ∷ 1 ∷ 0
     ∷ [])
     ∷ are (guard limitSheet)
     (6 ∷ 0 ∷ 16 ∷ 0 ∷ 1 ∷ 2 ∷ 1 ∷ 0 ∷ 4 ∷ 0
@@ -181,5 +221,5 @@ rows =
 
 -- each row's test succeeds, by computation
 pub every-row-holds : AllHold rows
-unfolding sheets supervisors guards forecasts plays boards
+unfolding sheets supervisors guards forecasts plays runs boards
 every-row-holds = all-hold rows refl

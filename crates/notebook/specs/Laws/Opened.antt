@@ -22,8 +22,9 @@ use Rattle.sheet.specs.Model.Reader.{takeRecord, onFound, readRecords, firstFou
 use Rattle.sheet.specs.Meaning.Refusals.{headNumber, monitorNumber, recordsNumber, sheetNumber}
 use Rattle.sheet.specs.Model.Where.{automaton, decoded}
 use Rattle.game.specs.Meaning.Proposal.{proposal, differs, deviates}
-use Rattle.product.specs.Meaning.Step.{siteLetter, nextState, accepts, shadowed, shadowMoved, sound, limitLetter, letterOf, monitorMoved, moved, advance, broken, firstTuple, line, equalLines, softReward, rewardBy, reward}
+use Rattle.product.specs.Meaning.Step.{siteLetter, nextState, accepts, shadowed, shadowMoved, sound, limitLetter, letterOf, monitorMoved, moved, broken, recovers, agreeing, advance, firstTuple, line, equalLines, softReward, rewardBy, reward}
 use Rattle.product.specs.Model.Stages.{matchReward}
+use Rattle.product.specs.Laws.Tuples.{picked, shown}
 use Rattle.product.specs.Model.States.{same}
 use Rattle.product.specs.Model.Outcome.{endedBy, outcomeOf, cellFor}
 use Rattle.product.specs.Model.ProductNumbering.{statesAfter, productStates, stateCount, stateOf, numberOf, cellOf}
@@ -58,7 +59,7 @@ use Rattle.card.specs.Model.Card.{averagesOf, cardEntry, cardEntryAt, lostEntri
 use Rattle.card_words.specs.Meaning.CardWords.{entryWords, cardWords}
 use Rattle.forecast.specs.Model.Forecast.{bestsOf, leastsOf, forecastCard}
 use lib.Ieee as float
-use Rattle.notebook.specs.Model.Figures.{cardFront, scoresOf, outputsFrom, boardFrom, outputs, deviationsShown}
+use Rattle.notebook.specs.Model.Figures.{cardFront, tupleBy, scoresOf, outputsFrom, boardFrom, outputs, deviationsShown}
 
 -- lists and numbers
 unfoldable pub lists : Unit {0}
@@ -75,8 +76,8 @@ sheets = tt
 
 -- steps, product states, rounds and the supervisor table
 unfoldable pub supervisors : Unit {0}
-unfolding lists proposal differs siteLetter nextState accepts shadowed shadowMoved sound limitLetter letterOf monitorMoved moved advance
-    broken endedBy outcomeOf cellFor firstTuple
+unfolding lists proposal differs siteLetter nextState accepts shadowed shadowMoved sound limitLetter letterOf monitorMoved moved broken
+    recovers agreeing advance endedBy outcomeOf cellFor firstTuple
     explore visit met meet add find statesAfter productStates stateCount stateOf numberOf cellOf
     cellAt isBroken isIn leadsIn answered stays entryAfter round rounds settled maskOf
     cellsOf droppedOf keptFlag tableHead tableRow tableOf supervisorTable manyNumber lostNumber roomNumber tableNumber makingNumber
@@ -101,6 +102,11 @@ unfoldable pub plays : Unit {0}
 unfolding supervisors dueNumber orderedNumber forcedBytes forcedLength beforeRound forcesAt forcingInput brokenMonitor breakerIn breakerAt
     forcedRow forcedOf forcedSize heldNumber
 plays = tt
+
+-- product states on a run
+unfoldable pub runs : Unit {0}
+unfolding supervisors picked shown tupleBy
+runs = tt
 
 -- load and step
 unfoldable pub boards : Unit {0}

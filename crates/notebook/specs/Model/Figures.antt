@@ -1,13 +1,14 @@
 -- What the notebook's rows speak of: definitions that the makers' and the board's contracts cite, at a sheet's bytes.
 -- Assumes nothing.
-use mathlib.Core.Bool.{true}
+use mathlib.Core.Bool.{true, cond}
 use mathlib.Core.List.{List, [], _∷_}
 use Prim.Native.Nat.{ℕ, _+_, _*_, _^_}
 use lib.ListN.{take}
 use Rattle.records.specs.Meaning.Lists.{tab}
 use Rattle.guard_table.specs.Model.Inside.{tableMost}
 use Rattle.sheet.specs.Meaning.Decoded.{Decoded}
-use Rattle.product.specs.Meaning.Step.{inputsOf, outputsOf}
+use Rattle.product.specs.Meaning.Step.{inputsOf, outputsOf, limitLetter, moved, broken, advance, firstTuple}
+use Rattle.product.specs.Laws.Tuples.{shown}
 use Rattle.product.specs.Model.ProductNumbering.{stateCount}
 use Rattle.values.specs.Model.Values.{scoreOf}
 use Rattle.board.specs.Meaning.Board.{emptyBoard}
@@ -68,6 +69,32 @@ forcedNumber sheet = orderedNumber heldNumber forcedSize true sheet room
 -- its bytes: for each product state the steps, low byte first, and the input
 abbrev pub play : List ℕ → List ℕ
 play sheet = forcedOf (sheetOf sheet)
+
+-- ---- a run of the product
+
+-- the tuple that a run of inputs and outputs leads to, each step by this rule
+unfoldable pub tupleBy : (List ℕ → ℕ → ℕ → List ℕ) → List ℕ → List ℕ → List ℕ → List ℕ
+tupleBy rule t [] outputs = t
+tupleBy rule t (i ∷ inputs) [] = t
+tupleBy rule t (i ∷ inputs) (o ∷ outputs) = tupleBy rule (rule t i o) inputs outputs
+
+-- by document 02's rule (N5), and as it was before: the copies move on their own for the whole run
+abbrev pub tupleAfter : List ℕ → List ℕ → List ℕ → List ℕ
+tupleAfter sheet = tupleBy (advance (sheetOf sheet)) (firstTuple (sheetOf sheet))
+
+abbrev pub formerAfter : List ℕ → List ℕ → List ℕ → List ℕ
+formerAfter sheet = tupleBy (moved (sheetOf sheet)) (firstTuple (sheetOf sheet))
+
+-- as document 01 writes a tuple: the monitors, then the copies
+abbrev pub tuple : List ℕ → List ℕ → List ℕ
+tuple sheet t = shown (sheetOf sheet) t
+
+-- the letter that limits read at a tuple, and whether a step from there is whole (1) or broken (0)
+abbrev pub letter : List ℕ → List ℕ → ℕ → ℕ → ℕ
+letter sheet t i o = limitLetter (sheetOf sheet) t i o
+
+abbrev pub whole : List ℕ → List ℕ → ℕ → ℕ → ℕ
+whole sheet t i o = cond (broken (sheetOf sheet) t i o) 0 1
 
 -- ---- what the tables are made from
 

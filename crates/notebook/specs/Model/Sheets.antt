@@ -1,4 +1,4 @@
--- The sheets of document 01's notebook and three more, as bytes. All but A's are the encodings of decoded sheets.
+-- The sheets of document 01's notebook and some more, as bytes. All but A's are the encodings of decoded sheets.
 -- Assumes nothing.
 use mathlib.Core.List.{List, [], _∷_}
 use Prim.Native.Nat.{ℕ}
@@ -132,19 +132,28 @@ abbrev pub shield : ℕ → ℕ → List Automaton → Decoded
 shield site literal monitors =
     record { mode = 1; site = site; outputs = 1; horizon = 0; matching = 1; literals = literal ∷ []; monitors = monitors }
 
--- no site lines: never on twice
-abbrev pub sheet7 : List ℕ
-sheet7 =
-    encode
-    (shield 0 0
-    (record {
+-- without site lines a letter is the output: never on twice
+abbrev pub onceAtMost : Automaton
+onceAtMost =
+    record {
       role = 0;
       weight = 0;
       start = 0;
       accept = 1 ∷ 1 ∷ 0 ∷ [];
       rows = (0 ∷ 1 ∷ []) ∷ (0 ∷ 2 ∷ []) ∷ (2 ∷ 2 ∷ []) ∷ [];
     }
-    ∷ []))
+
+abbrev pub sheet7 : List ℕ
+sheet7 = encode (shield 0 0 (onceAtMost ∷ []))
+
+-- a sound proposal is never left (letter 3)
+abbrev pub neverLeft : Automaton
+neverLeft =
+    record { role = 2; weight = 0; start = 0; accept = 1 ∷ 0 ∷ []; rows = (0 ∷ 0 ∷ 0 ∷ 1 ∷ []) ∷ (1 ∷ 1 ∷ 1 ∷ 1 ∷ []) ∷ [] }
+
+-- P7's with this limit
+abbrev pub strictSheet : List ℕ
+strictSheet = encode (shield 0 0 (onceAtMost ∷ neverLeft ∷ []))
 
 -- with one site line a letter is site + 2 × output: never on right after on with the site line on; after a break it begins anew
 abbrev pub notAgain : Automaton

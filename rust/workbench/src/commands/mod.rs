@@ -8,6 +8,7 @@ mod forecast;
 mod list;
 mod make;
 mod order;
+mod proposals;
 mod run;
 mod show;
 mod supervisor;
@@ -41,6 +42,7 @@ pub const COMMANDS: &[Command] = &[
     order::COMMAND,
     list::COMMAND,
     supervisor::COMMAND,
+    proposals::COMMAND,
     forecast::COMMAND,
     make::COMMAND,
     dot::COMMAND,

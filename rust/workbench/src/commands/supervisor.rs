@@ -45,16 +45,12 @@ fn write_inputs(
     state: usize,
     bench: &mut Bench,
 ) -> Outcome {
-    let (sheet, names) = (&states.named.sheet, &states.named.names);
-    let inputs: Vec<String> =
-        (0..1 << supervisor.inputs()).map(|input| names.input(sheet.mode, input)).collect();
-    let width = inputs.iter().map(String::len).max().unwrap_or(0);
-    for (input, name) in inputs.iter().enumerate() {
+    for (input, name) in (0..).zip(states.inputs()) {
         let allowed = (0..1 << supervisor.outputs())
-            .filter(|&output| supervisor.allows(state, input as u8, output))
-            .map(|output| names.output(output));
+            .filter(|&output| supervisor.allows(state, input, output))
+            .map(|output| states.named.names.output(output));
         let allowed: Vec<String> = allowed.collect();
-        writeln!(bench.out, "  {name:<width$}  {}", allowed.join(", "))?;
+        writeln!(bench.out, "  {name}  {}", allowed.join(", "))?;
     }
     Ok(())
 }
