@@ -120,7 +120,7 @@ fn general() -> Group {
         ("middle", sheets::middle()),
         ("full, two counters", sheets::counters((4, 2), 6, (32, 8))),
         ("full, six monitors", sheets::six_monitors()),
-        ("full, shield", sheets::shield_with(2, 2, 6, 2, 2, 3)),
+        ("full, shield", sheets::shield_with(2, 2, 6, 2, 2, 4)),
         ("chain", sheets::chain()),
     ];
     Group::by(ALL, "general", rows.map(named).into())
@@ -199,7 +199,7 @@ fn shields() -> Group {
             rows.push((format!("m {site_lines}, {outputs} out"), sheet));
         }
     }
-    for (site_lines, outputs, counter) in [(0, 2, 5), (1, 2, 5), (0, 3, 4)] {
+    for (site_lines, outputs, counter) in [(0, 2, 8), (1, 2, 8), (0, 3, 8)] {
         let sheet = sheets::shield_with(site_lines, outputs, 6, 2, 1, counter);
         rows.push((format!("m {site_lines}, {outputs} out, 2 copies"), sheet));
     }

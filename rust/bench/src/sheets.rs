@@ -91,13 +91,13 @@ pub fn six_monitors() -> Vec<u8> {
 
 /// The product states of a shield with one hard monitor, by the counter's states: as many times so
 /// many as this.
-const SHIELD_STATES: [usize; 4] = [0, 8, 10, 10];
+const SHIELD_STATES: [usize; 4] = [0, 9, 13, 13];
 
 /// A shield of about so many product states: one hard monitor with its copy, and a limit.
 pub fn shield_of(site_lines: u8, outputs: u8, horizon: u8, states: usize) -> Vec<u8> {
     let each = SHIELD_STATES[usize::from(outputs)];
     let counter = ((states + each / 2) / each).max(1);
-    shield_with(site_lines, outputs, horizon, 1, 1, counter as u8)
+    shield_with(site_lines, outputs, horizon, 1, 2, counter as u8)
 }
 
 /// A shield: hard monitors of so many outputs, each with its copy; a limit of so many deviations
@@ -237,7 +237,7 @@ mod tests {
         for states in [8usize, 30, 60, 120, 240] {
             for (site_lines, outputs) in [(0, 1), (2, 1), (0, 2), (2, 2), (0, 3)] {
                 let found = product(&shield_of(site_lines, outputs, 0, states)).count();
-                assert!(found.abs_diff(states) <= 5, "{found} for {states}");
+                assert!(found.abs_diff(states) <= 6, "{found} for {states}");
             }
         }
     }

@@ -116,6 +116,17 @@ fn the_order_is_as_told() {
     assert_eq!(shown.trim_end(), guard(&["order", &sheet("P8.sheet")], b"").text().trim_end());
 }
 
+/// Two product states of P7, with their proposals.
+#[test]
+#[cfg_attr(not(guard_library), ignore = "needs the library: rt staticlib hundlezoqa_c")]
+fn the_proposals_are_as_told() {
+    let document = std::fs::read_to_string(repository("docs/SHEETS.md")).expect("there");
+    let blocks = blocks(section(&document, "### A shield that corrects only errors"));
+    let shown = blocks.iter().find(|block| block.starts_with("state 3:")).expect("proposals");
+    let told = guard(&["proposals", &sheet("P7.sheet")], b"").text();
+    assert!(told.contains(shown.trim_end()), "{told}");
+}
+
 /// README's sheet is sheet A, with other comments.
 #[test]
 #[cfg_attr(not(guard_library), ignore = "needs the library: rt staticlib hundlezoqa_c")]

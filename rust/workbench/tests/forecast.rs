@@ -114,11 +114,10 @@ average reward over 2 steps
 state  best                          least                         never_open_twice_in_alarm, corrects_sound_only_after_unsound, (never_open_twice_in_alarm)
     0  11.25   ####################   8.25   ###############       closed, free, (closed)
     1  11.25   ####################  11.25   ####################  closed, bound, (closed)
-    2   9.375  #################      9.375  #################     closed, bound, (opened)
+    2  11.25   ####################   9.375  #################     closed, bound, (opened)
     3  lost                                                        opened, bound, (closed)
     4   9.375  #################      9.375  #################     opened, bound, (opened)
     5   9      ################       9      ################      closed, free, (broken)
-    6  lost                                                        opened, bound, (broken)
 ";
     let done = guard(&["forecast", "-"], text.as_bytes());
     assert_eq!((done.text().as_str(), done.status), (card, 0));

@@ -67,7 +67,7 @@ fn every_proposal_of_a_shield_is_told() {
 #[test]
 #[cfg_attr(not(guard_library), ignore = "needs the library: rt staticlib hundlezoqa_c")]
 fn a_proposal_that_has_recovered_is_told() {
-    let done = guard(&["proposals", &sheet("P7")], b"");
+    let done = guard(&["proposals", &sheet("P7.sheet")], b"");
     assert_eq!((done.status, done.err.as_str()), (0, ""));
     let told = "\
 state 4: never_open_twice closed; proposal never_open_twice twice
