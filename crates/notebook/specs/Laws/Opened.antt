@@ -22,7 +22,7 @@ use Rattle.sheet.specs.Model.Reader.{takeRecord, onFound, readRecords, firstFou
 use Rattle.sheet.specs.Meaning.Refusals.{headNumber, monitorNumber, recordsNumber, sheetNumber}
 use Rattle.sheet.specs.Model.Where.{automaton, decoded}
 use Rattle.game.specs.Meaning.Proposal.{proposal, differs, deviates}
-use Rattle.product.specs.Meaning.Step.{siteLetter, nextState, accepts, shadowed, shadowMoved, sound, limitLetter, letterOf, monitorMoved, moved, broken, recovers, agreeing, advance, firstTuple, line, equalLines, softReward, rewardBy, reward}
+use Rattle.product.specs.Meaning.Step.{siteLetter, nextState, accepts, shadowed, shadowMoved, sound, limitLetter, letterOf, monitorMoved, moved, broken, recovers, shadowAgreeing, agreeing, advance, firstTuple, line, equalLines, softReward, rewardBy, reward}
 use Rattle.product.specs.Model.Stages.{matchReward}
 use Rattle.product.specs.Laws.Tuples.{picked, shown}
 use Rattle.product.specs.Model.States.{same}
@@ -77,7 +77,7 @@ sheets = tt
 -- steps, product states, rounds and the supervisor table
 unfoldable pub supervisors : Unit {0}
 unfolding lists proposal differs siteLetter nextState accepts shadowed shadowMoved sound limitLetter letterOf monitorMoved moved broken
-    recovers agreeing advance endedBy outcomeOf cellFor firstTuple
+    recovers shadowAgreeing agreeing advance endedBy outcomeOf cellFor firstTuple
     explore visit met meet add find statesAfter productStates stateCount stateOf numberOf cellOf
     cellAt isBroken isIn leadsIn answered stays entryAfter round rounds settled maskOf
     cellsOf droppedOf keptFlag tableHead tableRow tableOf supervisorTable manyNumber lostNumber roomNumber tableNumber makingNumber
