@@ -8,7 +8,8 @@ ghost use Prim.Native.Nat.{_+_, _<_, _≤_};
 ghost use lib.ListN.{length};
 ghost use lib.Seq.{sets};
 ghost use Rattle.records.specs.Meaning.Records.{header};
-ghost use Rattle.guard_table.specs.Meaning.GuardTable.{rowKind, headLength, rowSize, rowAt, headerIs, guardHead};
+ghost use Rattle.guard_table.specs.Meaning.GuardTable.{headLength, rowSize, rowAt, headerIs, guardHead};
+ghost use Rattle.guard_table.specs.Meaning.RowKind.{kindNumber};
 ghost use Rattle.guard_table.specs.Model.Inside.{RowInside};
 
 // Whether a record's header has this size and this kind.
@@ -36,11 +37,14 @@ pub fn put_head(result: &mut [u8], mode: u8, inputs: u8, outputs: u8, horizon: u
 }
 
 // Writes the header of a state's row.
-pub fn put_row_header(result: &mut [u8], lines: u8, place: usize)
-    requires { ⌜ RowInside (now result) lines place ⌝ }
-    ensures { λ _. ⌜ now (result .exit) ≡ sets (now (result .entry)) (rowAt lines place) (header (rowSize lines) rowKind) ⌝ }
+pub fn put_row_header(result: &mut [u8], layout: Layout, place: usize)
+    requires { ⌜ RowInside (now result) (layout .kind) (layout .inputs) place ⌝ }
+    ensures { λ _. ⌜
+        now (result .exit)
+        ≡ sets (now (result .entry)) (rowAt (layout .kind) (layout .inputs) place)
+        (header (rowSize (layout .kind) (layout .inputs)) (kindNumber (layout .kind))) ⌝ }
 {
-    let layout = Layout { inputs: lines };
+    let kind = layout.kind;
     let size = layout.row_size();
-    put_header(result, layout.row_at(place), size as u16, Layout::ROW_KIND);
+    put_header(result, layout.row_at(place), size as u16, kind.number());
 }

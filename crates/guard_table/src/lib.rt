@@ -2,5 +2,6 @@
 // What a table's bytes mean is said here, and nowhere else.
 pub mod entry;
 pub mod heads;
+pub mod kind;
 pub mod layout;
 pub mod loadable;

@@ -2,6 +2,9 @@
 use crate::entry::entry_in;
 use crate::entry::entry_ok;
 use crate::heads::header_is;
+use crate::kind::RowKind;
+use crate::kind::kind_of;
+use crate::kind::shows_kind;
 use crate::layout::Layout;
 use records::limits::Limits;
 use records::limits::horizon_ok;
@@ -15,27 +18,28 @@ ghost use Rattle.guard_table.specs.Meaning.Loadable.{sizeOk, fieldsOk, t
 ghost use Rattle.guard_table.specs.Model.Entries.{entryPasses};
 ghost use Rattle.guard_table.specs.Model.Inside.{Sized};
 
-// Whether the count is in range, and the slice is as long as a table of so many states.
-fn size_ok(inputs: u8, count: u16, size: usize) -> bool
-    requires { ⌜ inputs ≤ maxInputs ⌝ }
-    ensures { λ r. ⌜ r ≡ sizeOk inputs count size ⌝ }
+// Whether the count is in range for rows of the kind, and the slice is as long as a table of so many states.
+fn size_ok(layout: Layout, count: u16, size: usize) -> bool
+    requires { ⌜ layout .inputs ≤ maxInputs ⌝ }
+    ensures { λ r. ⌜ r ≡ sizeOk (layout .kind) (layout .inputs) count size ⌝ }
 {
     if count < 1 {
         return false;
     }
-    if Limits::STATES < count as usize {
+    let kind = layout.kind;
+    if kind.states() < count as usize {
         return false;
     }
-    size == Layout { inputs }.table_length(count as usize)
+    size == layout.table_length(count as usize)
 }
 
 // Whether the head's fields are in range, and the slice is as long as they say.
-fn fields_ok(mode: u8, inputs: u8, outputs: u8, horizon: u8, count: u16, size: usize) -> bool
-    ensures { λ r. ⌜ r ≡ fieldsOk mode inputs outputs horizon count size ⌝ }
+fn fields_ok(mode: u8, layout: Layout, outputs: u8, horizon: u8, count: u16, size: usize) -> bool
+    ensures { λ r. ⌜ r ≡ fieldsOk (layout .kind) mode (layout .inputs) outputs horizon count size ⌝ }
 {
-    if lines_ok(mode, inputs, outputs) {
-        if horizon_ok(inputs, horizon) {
-            return size_ok(inputs, count, size);
+    if lines_ok(mode, layout.inputs, outputs) {
+        if horizon_ok(layout.inputs, horizon) {
+            return size_ok(layout, count, size);
         }
     }
     false
@@ -45,13 +49,17 @@ fn fields_ok(mode: u8, inputs: u8, outputs: u8, horizon: u8, count: u16, size: u
 fn head_ok(t: &[u8]) -> bool
     ensures { λ r. ⌜ r ≡ tableHeadOk (now (t .entry)) ⌝ }
 {
-    if t.len() < Layout::HEAD_LENGTH {
+    if !shows_kind(t) {
         return false;
     }
     if header_is(t, 0, Layout::HEAD_SIZE, Layout::HEAD_KIND) {
+        let layout = Layout {
+            inputs: t[Layout::INPUTS],
+            kind: kind_of(t),
+        };
         return fields_ok(
             t[Layout::MODE],
-            t[Layout::INPUTS],
+            layout,
             t[Layout::OUTPUTS],
             t[Layout::HORIZON],
             u16_at(t, Layout::COUNT),
@@ -93,10 +101,11 @@ fn row_ok(t: &[u8], inputs: u8, outputs: u8, count: usize, place: usize) -> bool
     requires { ⌜ Sized (now t) inputs count × ((outputs ≤ maxOutputs) × (place < count)) ⌝ }
     ensures { λ r. ⌜ r ≡ rowOk (now (t .entry)) inputs outputs count place ⌝ }
 {
-    let layout = Layout { inputs };
+    let kind = kind_of(t);
+    let layout = Layout { inputs, kind };
     let size = layout.row_size();
     let at = layout.row_at(place);
-    if header_is(t, at, size as u16, Layout::ROW_KIND) {
+    if header_is(t, at, size as u16, kind.number()) {
         return entries_ok(t, inputs, outputs, count, place);
     }
     false

@@ -32,7 +32,7 @@ impl Limits {
     pub const MONITOR_STATES: u8 = 32;
 
     // Product states, and so the states of a table.
-    pub const STATES: usize = 256;
+    pub const STATES: usize = 512;
 
     // A literal is below this: a line, 8 more if off is preferred.
     pub const LITERAL_END: u8 = 16;

@@ -1,57 +1,54 @@
--- The bytes of a guard table (document 01): a head, then a row for each state, with an entry for each input.
+-- The bytes of a guard table (documents 01 and 02): a head, then a row for each state, with an entry for each input.
 -- Assumes nothing.
-use mathlib.Core.List.{List, [], _∷_, _++_}
-use mathlib.Core.Bool.{Bool, _&&_}
+use mathlib.Core.List.{List, _∷_, _++_}
+use mathlib.Core.Bool.{Bool, cond, _&&_, _||_}
 use Prim.Native.Nat.{ℕ, _+_, _*_, _^_}
-use lib.Dec.{eqb}
-use lib.ListN.{getD}
+use lib.Dec.{leb, eqb}
+use lib.ListN.{length, getD}
 use Rattle.records.specs.Meaning.Lists.{cat}
 use Rattle.records.specs.Meaning.Numbers.{u16At, u16Bytes}
 use Rattle.records.specs.Meaning.Records.{header, headerSize}
+use Rattle.guard_table.specs.Meaning.RowKind.{kindNumber, kindFor, entryWidth, nextBytes, nextAt}
+use Rattle.guard_table.specs.declared.kind.RowKind.{RowKind}
+use Rattle.guard_table.specs.declared.kind.RowKind.the-variants.{Narrow, Wide}
 
--- ---- kinds and sizes
+-- ---- sizes
 
 abbrev pub headKind : ℕ
 headKind = 16
-
-abbrev pub rowKind : ℕ
-rowKind = 17
 
 -- the head's body: mode, input lines, output lines, horizon, and the count of states in two bytes
 abbrev pub headSize : ℕ
 headSize = 6
 
--- an entry: output and next state, which is below the end
-abbrev pub entryWidth : ℕ
-entryWidth = 2
-
-abbrev pub nextEnd : ℕ
-nextEnd = 256
-
 -- a row's body
-abbrev pub rowSize : ℕ → ℕ
-rowSize inputs = entryWidth * 2 ^ inputs
+abbrev pub rowSize : RowKind → ℕ → ℕ
+rowSize kind inputs = entryWidth kind * 2 ^ inputs
 
 -- the records of the head and of a row
 abbrev pub headLength : ℕ
 headLength = headerSize + headSize
 
-unfoldable pub rowLength : ℕ → ℕ
-rowLength inputs = headerSize + rowSize inputs
+unfoldable pub rowLength : RowKind → ℕ → ℕ
+rowLength kind inputs = headerSize + rowSize kind inputs
 
--- a table with its head
-unfoldable pub tableLength : ℕ → ℕ → ℕ
-tableLength inputs count = headLength + count * rowLength inputs
+-- a table with its head, with rows of a kind
+unfoldable pub lengthIn : RowKind → ℕ → ℕ → ℕ
+lengthIn kind inputs count = headLength + count * rowLength kind inputs
+
+-- and the guard's, with rows of the kind for its count
+abbrev pub tableLength : ℕ → ℕ → ℕ
+tableLength inputs count = lengthIn (kindFor count) inputs count
 
 -- ---- places
 
 -- where the row of a state begins
-unfoldable pub rowAt : ℕ → ℕ → ℕ
-rowAt inputs place = headLength + place * rowLength inputs
+unfoldable pub rowAt : RowKind → ℕ → ℕ → ℕ
+rowAt kind inputs place = headLength + place * rowLength kind inputs
 
 -- where the entry of a state and an input stands
-unfoldable pub entryAt : ℕ → ℕ → ℕ → ℕ
-entryAt inputs place input = rowAt inputs place + (headerSize + entryWidth * input)
+unfoldable pub entryAt : RowKind → ℕ → ℕ → ℕ → ℕ
+entryAt kind inputs place input = rowAt kind inputs place + (headerSize + entryWidth kind * input)
 
 -- ---- reading
 
@@ -75,12 +72,27 @@ headCount t = u16At t 8
 unfoldable pub headerIs : List ℕ → ℕ → ℕ → ℕ → Bool
 headerIs t at size kind = eqb (u16At t at) size && eqb (u16At t (at + 2)) kind
 
+-- the first row's kind, in the two bytes after its size; a slice shows it up to here
+abbrev pub firstKind : List ℕ → ℕ
+firstKind t = u16At t 12
+
+abbrev pub shownLength : ℕ
+shownLength = 14
+
+-- the slice is long enough to show the kind, and shows one of the two
+unfoldable pub showsKind : List ℕ → Bool
+showsKind t = leb shownLength (length t) && (eqb (firstKind t) (kindNumber Narrow) || eqb (firstKind t) (kindNumber Wide))
+
+-- that kind, by which every row is read
+unfoldable pub kindOf : List ℕ → RowKind
+kindOf t = cond (eqb (firstKind t) (kindNumber Wide)) Wide Narrow
+
 -- the entry of a state and an input: its output, and its next state
 unfoldable pub outputIn : List ℕ → ℕ → ℕ → ℕ → ℕ
-outputIn t inputs place input = getD t (entryAt inputs place input) 0
+outputIn t inputs place input = getD t (entryAt (kindOf t) inputs place input) 0
 
 unfoldable pub nextIn : List ℕ → ℕ → ℕ → ℕ → ℕ
-nextIn t inputs place input = getD t (entryAt inputs place input + 1) 0
+nextIn t inputs place input = nextAt (kindOf t) t (entryAt (kindOf t) inputs place input + 1)
 
 -- ---- writing
 
@@ -89,14 +101,19 @@ abbrev pub guardHead : ℕ → ℕ → ℕ → ℕ → ℕ → List ℕ
 guardHead mode inputs outputs horizon count = header headSize headKind ++ (mode ∷ inputs ∷ outputs ∷ horizon ∷ u16Bytes count)
 
 -- an entry
-abbrev pub guardEntry : ℕ → ℕ → List ℕ
-guardEntry output next = output ∷ next ∷ []
+abbrev pub guardEntry : RowKind → ℕ → ℕ → List ℕ
+guardEntry kind output next = output ∷ nextBytes kind next
 
 -- the row of a state whose entry at input i is `out i` and `next i`
-unfoldable pub guardRow : ℕ → (ℕ → ℕ) → (ℕ → ℕ) → List ℕ
-guardRow inputs out next = header (rowSize inputs) rowKind ++ cat (2 ^ inputs) (λ i. guardEntry (out i) (next i))
+unfoldable pub guardRow : RowKind → ℕ → (ℕ → ℕ) → (ℕ → ℕ) → List ℕ
+guardRow kind inputs out next =
+    header (rowSize kind inputs) (kindNumber kind) ++ cat (2 ^ inputs) (λ i. guardEntry kind (out i) (next i))
 
--- a whole guard table
-unfoldable pub guardTable : ℕ → ℕ → ℕ → ℕ → ℕ → (ℕ → ℕ → ℕ) → (ℕ → ℕ → ℕ) → List ℕ
-guardTable mode inputs outputs horizon count out next =
-    guardHead mode inputs outputs horizon count ++ cat count (λ k. guardRow inputs (out k) (next k))
+-- a whole table with rows of a kind
+unfoldable pub tableIn : RowKind → ℕ → ℕ → ℕ → ℕ → ℕ → (ℕ → ℕ → ℕ) → (ℕ → ℕ → ℕ) → List ℕ
+tableIn kind mode inputs outputs horizon count out next =
+    guardHead mode inputs outputs horizon count ++ cat count (λ k. guardRow kind inputs (out k) (next k))
+
+-- the guard's table: up to 256 states have narrow rows, more have wide ones
+abbrev pub guardTable : ℕ → ℕ → ℕ → ℕ → ℕ → (ℕ → ℕ → ℕ) → (ℕ → ℕ → ℕ) → List ℕ
+guardTable mode inputs outputs horizon count = tableIn (kindFor count) mode inputs outputs horizon count

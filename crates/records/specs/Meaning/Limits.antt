@@ -6,7 +6,7 @@ use lib.Dec.{leb, eqb}
 
 -- product states, and so the states of a table
 abbrev pub maxStates : ℕ
-maxStates = 256
+maxStates = 512
 
 -- steps of a run
 abbrev pub maxSteps : ℕ

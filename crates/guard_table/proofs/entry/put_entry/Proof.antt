@@ -1,29 +1,28 @@
--- `guard_table::entry::put_entry`: two bytes, one after the other. Assumes nothing.
+-- `guard_table::entry::put_entry`: the output, then the next state. Assumes nothing.
+use mathlib.Core.Path.{_∙_}
 use native.Mathlib.Numerals.{add-one}
 use native.Mathlib.Omega.{arith}
 use lib.ListN.{length-set}
+use Rattle.guard_table.specs.Laws.GuardTable.{width-least}
 use borrow.Author.Needs.{needs}
 use Rattle.guard_table.proofs.entry.put_entry.Statement.{statement}
 use Rattle.guard_table.proofs.entry.put_entry.Tie as tie
 
 slice-write-result : tie.Need-slice-write-result
-slice-write-result c = search needs
+slice-write-result c = omega (arith, width-least (c .before .args .kind))
 
-cast-result : tie.Need-cast-result
-cast-result c = search needs
+add-put-next : tie.Need-add-put-next
+add-put-next c = search needs
 
-add-result : tie.Need-add-result
-add-result c = search needs
-
-slice-write-result-2 : tie.Need-slice-write-result-2
-slice-write-result-2 c = simp length-set (omega arith)
+put-next-requires : tie.Need-put-next-requires
+put-next-requires c κs = let s = c .before .before in simp length-set (omega arith, s .pre .1)
 
 same-length : tie.Need-same-length
-same-length c = simp length-set
+same-length c = c .before .before .put-next .kept .0 ∙ simp length-set
 
 returns : tie.Need-returns
-returns c = rw add-one
+returns c = rw add-one at (c .before .before .put-next .ensures)
 
 pub put-entry-spec : {M : Type 1} → statement M
 put-entry-spec =
-    tie.close (tie.spec slice-write-result cast-result add-result slice-write-result-2 same-length returns)
+    tie.close (tie.spec slice-write-result add-put-next put-next-requires same-length returns)

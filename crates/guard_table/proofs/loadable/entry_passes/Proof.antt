@@ -33,7 +33,7 @@ entry-ok-requires c κs = search needs
 
 returns-2 : tie.Need-returns-2
 returns-2 c = let e = c .before .entry-in .ensures in
-    c .entry-ok .ensures ∙ sym (entry-tested _ _ _ _ _ _ (e .0) (e .1 .0) refl) ∙ sym (passes-inside _ _ _ _ _ _ (inside (tested c)))
+    c .entry-ok .ensures ∙ sym (entry-tested _ _ _ _ _ _ (e .0) (e .1) refl) ∙ sym (passes-inside _ _ _ _ _ _ (inside (tested c)))
 
 pub entry-passes-spec : {M : Type 1} → statement M
 entry-passes-spec =

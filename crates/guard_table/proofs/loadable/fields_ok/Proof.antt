@@ -9,7 +9,7 @@ use borrow.Author.Needs.{needs}
 use Rattle.guard_table.proofs.loadable.fields_ok.Statement.{statement}
 use Rattle.guard_table.proofs.loadable.fields_ok.Tie as tie
 
-lines : (c : tie.Then1) → let a = c .before .before .args in linesOk (a .mode) (a .inputs) (a .outputs) ≡ true
+lines : (c : tie.Then1) → let a = c .before .before .args in linesOk (a .mode) (a .layout .inputs) (a .outputs) ≡ true
 lines c = said (c .before .lines-ok .ensures) (c .if1 .taken)
 
 lines-ok-requires : tie.Need-lines-ok-requires

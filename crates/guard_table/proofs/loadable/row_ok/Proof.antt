@@ -1,44 +1,67 @@
 -- `guard_table::loadable::row_ok`: the header, then the entries. Assumes nothing.
 use native.Mathlib.Omega.{arith}
-use mathlib.Core.Path.{_≡_}
+use mathlib.Core.Path.{_≡_, sym, ap, _∙_}
 use mathlib.Core.Bool.{Bool, true, false}
+use mathlib.Core.List.{List}
+use Prim.Native.Nat.{ℕ}
 use denote.Ref.{now}
 use Rattle.records.specs.Laws.Tests.{said}
-use Rattle.guard_table.specs.Meaning.GuardTable.{rowKind, rowSize, rowAt, headerIs}
+use Rattle.guard_table.specs.Meaning.RowKind.{kindNumber}
+use Rattle.guard_table.specs.Meaning.GuardTable.{rowSize, rowAt, headerIs, kindOf}
 use Rattle.guard_table.specs.Model.Inside.{RowInside}
-use Rattle.guard_table.specs.Laws.GuardTable.{sized-row, header-inside}
+use Rattle.guard_table.specs.Laws.GuardTable.{sized-row, row-shows, header-inside}
 use Rattle.guard_table.specs.Meaning.Loadable.{rowOk}
+use Rattle.guard_table.specs.declared.kind.RowKind.{RowKind}
 use borrow.Author.Needs.{needs}
 use Rattle.guard_table.proofs.loadable.row_ok.Statement.{statement}
 use Rattle.guard_table.proofs.loadable.row_ok.Tie as tie
 
 -- the places that the needs look back to
+abbrev kinded : tie.After-row-at → tie.After-kind-of
+kinded c = c .before .before
+
 abbrev start : tie.After-row-at → tie.Start
-start c = c .before .before .before
+start c = kinded c .before .before
 
 -- the row lies inside the slice
-inside : (c : tie.After-row-at) → RowInside (now (start c .args .t)) (start c .args .inputs) (start c .args .place)
-inside c = let s = start c in sized-row (s .pre .0) (s .pre .1 .1)
+inside : (c : tie.Start) → RowInside (now (c .args .t)) (kindOf (now (c .args .t))) (c .args .inputs) (c .args .place)
+inside c = sized-row (c .pre .0) (c .pre .1 .1)
 
--- the test of the header is the definition's
+-- a header that was tested by the kind that was found
+header-tested : (t : List ℕ) (inputs place : ℕ) {kind : RowKind} → kind ≡ kindOf t → {at size number : ℕ} → at ≡ rowAt kind inputs place
+    → size ≡ rowSize kind inputs → number ≡ kindNumber kind → {f : Bool} → headerIs t at size number ≡ f
+    → headerIs t (rowAt (kindOf t) inputs place) (rowSize (kindOf t) inputs) (kindNumber (kindOf t)) ≡ f
+header-tested t inputs place k a s n {f} e =
+    ap (λ (x : RowKind). headerIs t (rowAt x inputs place) (rowSize x inputs) (kindNumber x)) (sym k) ∙ rw (← a, ← s, ← n) e
+
 headed : (c : tie.After-header-is) (f : Bool) → c .header-is .result ≡ f →
-    let a = start (c .before) .args in
-    headerIs (now (a .t)) (rowAt (a .inputs) (a .place)) (rowSize (a .inputs)) rowKind ≡ f
+    let t = now (start (c .before .before) .args .t) in
+    let a = start (c .before .before) .args in
+    headerIs t (rowAt (kindOf t) (a .inputs) (a .place)) (rowSize (kindOf t) (a .inputs)) (kindNumber (kindOf t)) ≡ f
 headed c f e =
     let d = c .before in
-    rw (d .row-at .ensures .0, d .before .row-size .ensures .0) at (said (c .header-is .ensures) e)
+    let at = d .before in
+    header-tested _ _ _ (kinded at .kind-of .ensures) (at .row-at .ensures .0) (at .before .row-size .ensures .0) (d .number .ensures)
+    (said (c .header-is .ensures) e)
+
+kind-of-requires : tie.Need-kind-of-requires
+kind-of-requires c κs = row-shows (inside (c .before))
 
 row-size-requires : tie.Need-row-size-requires
-row-size-requires c κs = c .before .pre .0 .inputs-most
+row-size-requires c κs = c .before .before .pre .0 .inputs-most
 
 row-at-requires : tie.Need-row-at-requires
-row-at-requires c κs = let s = c .before .before in omega (arith, s .pre .0 .inputs-most, s .pre .0 .count-most, s .pre .1 .1)
+row-at-requires c κs = let s = c .before .before .before in omega (arith, s .pre .0 .inputs-most, s .pre .0 .count-most, s .pre .1 .1)
 
 cast-header-is : tie.Need-cast-header-is
 cast-header-is c = omega (arith, c .before .row-size .ensures .1)
 
+number-requires : tie.Need-number-requires
+number-requires c κs = search needs
+
 header-is-requires : tie.Need-header-is-requires
-header-is-requires c κs = omega (arith, header-inside (inside c), c .row-at .ensures .0)
+header-is-requires c κs = let at = c .before in
+    omega (arith, header-inside _ (rw (← kinded at .kind-of .ensures) at (inside (start at))), at .row-at .ensures .0)
 
 entries-ok-requires : tie.Need-entries-ok-requires
 entries-ok-requires c κs = search needs
@@ -54,4 +77,13 @@ returns-2 c = simp (headed (c .before) false (c .if1 .left))
 pub row-ok-spec : {M : Type 1} → statement M
 row-ok-spec =
     tie.close
-    (tie.spec row-size-requires row-at-requires cast-header-is header-is-requires entries-ok-requires returns returns-2)
+    (tie.spec
+    kind-of-requires
+    row-size-requires
+    row-at-requires
+    cast-header-is
+    number-requires
+    header-is-requires
+    entries-ok-requires
+    returns
+    returns-2)

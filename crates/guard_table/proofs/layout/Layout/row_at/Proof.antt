@@ -1,15 +1,17 @@
--- `guard_table::layout::Layout::row_at`: at most 256 rows of 36 bytes before it. Assumes nothing.
+-- `guard_table::layout::Layout::row_at`: as many rows before it as there are states, each as long as the longest at most.
+-- Assumes nothing.
 use native.Mathlib.Omega.{arith}
 use native.Mathlib.Nat.{mul-le-mul}
-use Prim.Native.Nat.{_*_, _≤_}
+use Prim.Native.Nat.{_+_, _*_, _≤_}
 use Rattle.records.specs.Meaning.Limits.{maxStates}
 use Rattle.guard_table.specs.Meaning.GuardTable.{rowAt}
+use Rattle.guard_table.specs.Model.Inside.{rowMost}
 use borrow.Author.Needs.{needs}
 use Rattle.guard_table.proofs.layout.Layout.row_at.Statement.{statement}
 use Rattle.guard_table.proofs.layout.Layout.row_at.Tie as tie
 
-rows : (c : tie.After-row-length) → c .before .args .place * c .row-length .result ≤ 9216
-rows c = mul-le-mul {n₂ = maxStates} {m₂ = 36} (omega arith) (omega arith)
+rows : (c : tie.After-row-length) → c .before .args .place * c .row-length .result ≤ maxStates * (4 + rowMost)
+rows c = mul-le-mul {n₂ = maxStates} {m₂ = 4 + rowMost} (omega arith) (omega arith)
 
 row-length-requires : tie.Need-row-length-requires
 row-length-requires c κs = search needs

@@ -13,7 +13,7 @@ add-result c = omega arith
 
 returns : tie.Need-returns
 unfolding rowLength
-returns c = omega arith
+returns c = omega (arith, c .row-size .ensures .0)
 
 pub row-length-spec : {M : Type 1} → statement M
 row-length-spec = tie.close (tie.spec row-size-requires add-result returns)
