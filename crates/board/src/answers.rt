@@ -31,7 +31,7 @@ pub enum Step {
     Spent,
     // 12: the input is not below 2^inputs.
     BadInput,
-    // 11: the slice is not as long as the board's table, or the entry read is out of range.
+    // 11: the slice shows no kind of rows, is not as long as the board's table in such rows, or the entry read is out of range.
     BadTable,
 }
 

@@ -8,6 +8,8 @@ use crate::answers::Step;
 use crate::answers::Stepping;
 use guard_table::entry::entry_in;
 use guard_table::entry::entry_ok;
+use guard_table::kind::kind_of;
+use guard_table::kind::shows_kind;
 use guard_table::layout::Layout;
 use guard_table::loadable::is_loadable;
 use records::limits::Limits;
@@ -23,7 +25,7 @@ ghost use Rattle.guard_table.specs.Meaning.GuardTable.{headLength};
 ghost use Rattle.board.specs.Meaning.Board.{countsOk, live, runAt};
 ghost use Rattle.board.specs.Meaning.Load.{boardOf};
 ghost use Rattle.game.specs.Meaning.Proposal.{deviates};
-ghost use Rattle.board.specs.Meaning.BoardStep.{boardMoved, lookedUp};
+ghost use Rattle.board.specs.Meaning.BoardStep.{boardMoved, lengthFits, lookedUp};
 ghost use Rattle.board.specs.Promises.Board.{EmptyPromise, LoadPromise, StepPromise, RewindPromise, UnloadPromise};
 
 pub mod answers;
@@ -161,20 +163,31 @@ impl Board {
         self.look_up(table, input)
     }
 
-    // The step of a live board at an input below 2^inputs: the slice's length and one entry are looked at.
+    // Whether the slice shows the kind of its rows, and is as long as the board's table in such rows.
+    fn length_fits(self, table: &[u8]) -> bool
+        requires { ⌜ live self ≡ true ⌝ }
+        ensures { λ r. ⌜ r ≡ lengthFits self (now (table .entry)) ⌝ }
+    {
+        if !shows_kind(table) {
+            return false;
+        }
+        let layout = Layout {
+            inputs: self.inputs,
+            kind: kind_of(table),
+        };
+        table.len() == layout.table_length(self.count as usize)
+    }
+
+    // The step of a live board at an input below 2^inputs: the slice's length, the kind of its first row and one entry are looked at.
     fn look_up(self, table: &[u8], input: u8) -> Stepping
         requires { ⌜ (live self ≡ true) × (input < 2 ^ self .inputs) ⌝ }
         ensures { λ r. ⌜ r ≡ lookedUp self (now (table .entry)) input ⌝ }
     {
-        let layout = Layout {
-            inputs: self.inputs,
-        };
-        let count = self.count as usize;
-        if table.len() != layout.table_length(count) {
+        if !self.length_fits(table) {
             return Stepping::of(self, Step::BadTable);
         }
         let entry = entry_in(table, self.inputs, self.place as usize, input as usize);
-        if entry_ok(entry, self.outputs, count) {
+        if entry_ok(entry, self.outputs, self.count as usize) {
             return self.moved(input, entry.output, entry.next);
         }
         Stepping::of(self, Step::BadTable)

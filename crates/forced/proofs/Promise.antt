@@ -96,7 +96,6 @@ module _
           only = λ d x few n bytes y. only-answer d y (says d x few);
           broken-by = broken-by;
           work-bytes = omega arith;
-          work-doubled = omega arith;
         }
 
 -- 23 in the place of 8, where the start is kept

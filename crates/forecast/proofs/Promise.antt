@@ -52,7 +52,6 @@ forecast-promise {s} {r} lent bytes answers =
       best-sums = λ d a. best-sums-by d (accepted-layout a);
       least-sums = λ d a. sums-by d (accepted-layout a) smallest;
       work-bytes = omega arith;
-      work-doubled = omega arith;
     }
   where
     size : (b : Bool) → r .card ≡ cond b (forecastCard (sheetOf s)) lostCard → length (r .card .entries) ≡ maxStates

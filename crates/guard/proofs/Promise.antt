@@ -43,7 +43,6 @@ guard-makes horizon near {s} {before} {r} {after} lent answers read only =
           rw (written-front (all .written e d (a .sheet)))
           (faithful d (a .sheet .in-bounds) (accepted-layout a) (a .realizable) (horizon d) (near d (a .sheet .in-bounds)));
       work-bytes = omega arith;
-      work-doubled = omega arith;
     }
   where
     all : Makes (guardTableBy horizon) (statesBy horizon) (longEnough guardWork lent) s before r after

@@ -44,8 +44,8 @@ impl Layout {
     // No entry is wider, and no table is longer: all states, with all inputs.
     pub const WIDTH: usize = 3;
 
-    pub const MOST: usize =
-        Layout::HEAD_LENGTH + Limits::STATES * (Layout::HEADER + Layout::WIDTH * Limits::INS);
+    pub const MOST: usize = Layout::HEAD_LENGTH
+        + Limits::STATES * (Layout::HEADER + Layout::WIDTH * Limits::INS);
 
     // The bytes of a row's body: an entry for each input.
     pub fn row_size(self) -> usize

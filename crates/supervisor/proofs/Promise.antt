@@ -102,7 +102,6 @@ supervisor-makes {s} {before} {r} {after} lent answers read only =
           let w = all .written e d (a .sheet) in
           rw (w .count, written-front w) (table-means d a);
       work-bytes = omega arith;
-      work-doubled = omega arith;
     }
   where
     all : Makes supervisorTable stateCount (longEnough supervisorWork lent) s before r after

@@ -9,17 +9,19 @@ use native.Mathlib.Omega.{arith}
 use lib.Dec.{ltb, leb, eqb}
 use lib.ListN.{length}
 use lib.Pow.{high}
-use borrow.Author.Tests.{leb-false, ltb-true, lt-ltb, le-ltb, lt-leb, le-leb, eq-eqb}
+use borrow.Author.Tests.{leb-false, ltb-true, eqb-true, lt-ltb, le-ltb, lt-leb, le-leb, eq-eqb}
 use Rattle.records.specs.Laws.Tests.{and-left, and-right, and-both, by-test}
 use Rattle.records.specs.Meaning.Limits.{maxSteps}
-use Rattle.guard_table.specs.Meaning.GuardTable.{tableLength, headMode, headInputs, headOutputs, headCount, outputIn, nextIn}
+use Rattle.records.specs.Laws.Limits.{lines-facts}
+use Rattle.guard_table.specs.Meaning.GuardTable.{lengthIn, headMode, headInputs, headOutputs, headCount, firstKind, showsKind, kindOf, outputIn, nextIn}
 use Rattle.game.specs.Meaning.Proposal.{proposal, deviates}
 use Rattle.game.specs.Meaning.Book.{Call, load, step, rewind, unload}
 use Rattle.board.specs.Meaning.Board.{live, emptyBoard, runAt, rewindOn, unloadOn}
 use Rattle.guard_table.specs.Meaning.Loadable.{entryOk, loadable}
+use Rattle.guard_table.specs.Model.Inside.{Sized}
 use Rattle.guard_table.specs.Laws.LoadableFacts.{loadable-head, loadable-entry}
 use Rattle.board.specs.Meaning.Load.{boardOf, loadOn}
-use Rattle.board.specs.Meaning.BoardStep.{entryFits, boardMoved, lookedUp, stepOn, stepNumber, stepRefusal}
+use Rattle.board.specs.Meaning.BoardStep.{lengthFits, entryFits, boardMoved, lookedUp, stepOn, stepNumber, stepRefusal}
 use Rattle.board.specs.Meaning.Calls.{boardAfter}
 use Rattle.board.specs.Laws.LiveFacts.{live-facts, facts-live}
 use Rattle.board.specs.declared.Board.{Board}
@@ -112,14 +114,25 @@ pub proposal-of : (site l p : ℕ) → l < 2 ^ site → proposal site (l + 2 ^ s
 unfolding proposal
 proposal-of s l p h = rw (add-comm l (2 ^ s * p), mul-comm (2 ^ s) p) (high p s h)
 
--- a step looks at the slice's length and at the entry's two bytes, and at nothing else of the slice
-pub step-reads : (b : Board) (t u : List ℕ) (i : ℕ) → length t ≡ length u
+-- a step looks at the slice's length, at the first row's kind and at the entry, and at nothing else of the slice
+pub step-reads : (b : Board) (t u : List ℕ) (i : ℕ) → length t ≡ length u → firstKind t ≡ firstKind u
     → outputIn t (b .inputs) (b .place) i ≡ outputIn u (b .inputs) (b .place) i
     → nextIn t (b .inputs) (b .place) i ≡ nextIn u (b .inputs) (b .place) i → stepOn b t i ≡ stepOn b u i
-unfolding stepOn lookedUp entryFits entryOk
-step-reads b t u i l o n = rw (l, o, n)
+unfolding stepOn lookedUp entryFits lengthFits entryOk showsKind kindOf
+step-reads b t u i l k o n = rw (l, k, o, n)
 
 -- ---- a live board
+
+-- a slice that fits it is as long as a table of its states
+pub fits-sized : (b : Board) (t : List ℕ) → live b ≡ true → lengthFits b t ≡ true → Sized t (b .inputs) (b .count)
+unfolding lengthFits
+fits-sized b t e f =
+    let h = live-facts b e in
+    record {
+      inputs-most = lines-facts (b .mode) (b .inputs) (b .outputs) (h .lines) .inputs-most;
+      count-most = h .count-most;
+      fills = eqb-true (length t) (lengthIn (kindOf t) (b .inputs) (b .count)) (search (and-left, and-right));
+    }
 
 -- a run at a point in range is live
 run-live : (b : Board) (place steps deviations : ℕ) → live b ≡ true → place < b .count → steps ≤ maxSteps → deviations ≤ steps
@@ -232,16 +245,18 @@ module _ (b : Board) (e : live b ≡ true) where
 
   -- ---- that holds a loadable table
   module _ (t : List ℕ) (l : loadable t ≡ true) (s : ShowsHead b t) (i : ℕ) where
+    length-fits : lengthFits b t ≡ true
+    unfolding lengthFits
+    length-fits = let h = loadable-head t l in and-both _ _ (h .shows) (rw (s .inputs, s .count) (eq-eqb _ _ (h .fills)))
+
     entry-fits : i < 2 ^ b .inputs → entryFits b t i ≡ true
     unfolding entryFits
-    entry-fits h = fits (b .inputs) (b .outputs) (b .count) (s .inputs) (s .outputs) (s .count) (live-facts b e .place) h
+    entry-fits h = and-both _ _ length-fits (fits (b .inputs) (b .outputs) (b .count) (s .inputs) (s .outputs) (s .count)
+        (live-facts b e .place) h)
       where
         fits : (inputs outputs count : ℕ) → inputs ≡ headInputs t → outputs ≡ headOutputs t → count ≡ headCount t → b .place < count
-            → i < 2 ^ inputs → (eqb (length t) (tableLength inputs count)
-            && entryOk (outputIn t inputs (b .place) i) (nextIn t inputs (b .place) i) outputs count) ≡ true
-        fits n o k p q r h m =
-            rw (p, q, r)
-            (and-both _ _ (eq-eqb _ _ (loadable-head t l .fills)) (loadable-entry t l (b .place) i (rw r at h) (rw p at m)))
+            → i < 2 ^ inputs → entryOk (outputIn t inputs (b .place) i) (nextIn t inputs (b .place) i) outputs count ≡ true
+        fits n o k p q r h m = rw (p, q, r) (loadable-entry t l (b .place) i (rw r at h) (rw p at m))
 
     -- a step is refused by 22 or 12 alone
     pub step-refused : stepRefusal b t i ≡ cond (leb maxSteps (b .steps)) 22 (cond (ltb i (2 ^ b .inputs)) 0 12)

@@ -1,4 +1,4 @@
--- A step of the board (document 01, 'The board'): what it looks at, and what it hands back.
+-- A step of the board (document 01, 'The board'; 02): what it looks at, and what it hands back.
 -- Assumes nothing.
 use mathlib.Core.Bool.{Bool, cond, _&&_}
 use mathlib.Core.List.{List}
@@ -6,7 +6,7 @@ use Prim.Native.Nat.{ℕ, _+_, _-_, _^_}
 use lib.Dec.{ltb, leb, eqb}
 use lib.ListN.{length}
 use Rattle.records.specs.Meaning.Limits.{maxSteps}
-use Rattle.guard_table.specs.Meaning.GuardTable.{tableLength, outputIn, nextIn}
+use Rattle.guard_table.specs.Meaning.GuardTable.{lengthIn, showsKind, kindOf, outputIn, nextIn}
 use Rattle.game.specs.Meaning.Proposal.{deviates}
 use Rattle.board.specs.Meaning.Board.{live, runAt}
 use Rattle.guard_table.specs.Meaning.Loadable.{entryOk}
@@ -19,10 +19,14 @@ use Rattle.board.specs.declared.answers.Stepping.{Stepping}
 abbrev pub siteOf : Board → ℕ
 siteOf b = b .inputs - b .outputs
 
--- the slice is as long as the board's table, and the entry of the board's place at the input is in range
+-- the slice shows its rows' kind, and is as long as the board's table in rows of that kind, which is not held against the count
+unfoldable pub lengthFits : Board → List ℕ → Bool
+lengthFits b t = showsKind t && eqb (length t) (lengthIn (kindOf t) (b .inputs) (b .count))
+
+-- and the entry of the board's place at the input is in range
 unfoldable pub entryFits : Board → List ℕ → ℕ → Bool
 entryFits b t input =
-    eqb (length t) (tableLength (b .inputs) (b .count))
+    lengthFits b t
     && entryOk (outputIn t (b .inputs) (b .place) input) (nextIn t (b .inputs) (b .place) input) (b .outputs) (b .count)
 
 -- a step with this output to this next state

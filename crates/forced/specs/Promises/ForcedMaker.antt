@@ -95,5 +95,3 @@ pub record MakesForced (s before lent : List ℕ) (r : Forced) (after : List ℕ
   pub broken-by : (d : Decoded) (t : List ℕ) (i o : ℕ) → (broken d t i o ≡ true) ↔ ((j : ℕ) × BrokenBy d t i o j)
   -- the bytes of work memory that the constants ask for
   pub work-bytes : askedBytes forcedWork ≤ workMost
-  -- and what they would ask for if there were twice as many states
-  pub work-doubled : askedBytes (forcedWorkFor (2 * maxStates)) ≤ 2 * workMost

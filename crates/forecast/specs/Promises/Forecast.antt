@@ -79,5 +79,3 @@ pub record MakesForecast (s lent : List ℕ) (r : Forecasting) : Type 0 where
   pub least-sums : (d : Decoded) → Accepted s d → LeastSums d (leastAt d)
   -- the bytes of work memory that the constants ask for
   pub work-bytes : askedBytes forecastWork ≤ workMost
-  -- and what they would ask for if there were twice as many states
-  pub work-doubled : askedBytes (forecastWorkFor (2 * maxStates)) ≤ 2 * workMost

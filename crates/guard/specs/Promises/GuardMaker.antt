@@ -60,8 +60,6 @@ pub record MakesOver (horizon : Decoded → ℕ) (s before lent : List ℕ) (r :
   pub faithful : madeNumber r ≡ 0 → (d : Decoded) → Accepted s d → Faithful d (horizon d) (take (madeLength r) after)
   -- the bytes of work memory that the constants ask for
   pub work-bytes : askedBytes guardWork ≤ workMost
-  -- and what they would ask for if there were twice as many states
-  pub work-doubled : askedBytes (guardWorkFor (2 * maxStates)) ≤ 2 * workMost
 
 -- the maker's: over the sheet's own
 abbrev pub MakesGuard : List ℕ → List ℕ → List ℕ → Made → List ℕ → Type 0

@@ -10,6 +10,6 @@ use Rattle.states.specs.Model.Index.{forksAt}
 abbrev pub openingWork : ℕ → List Slice → List Slice
 openingWork n more = eights n ∷ pairs (n * maxLetters) ∷ pairs (forksAt n) ∷ more
 
--- together at most so many bytes (document 01, ground 10)
+-- together at most so many bytes (document 02, N6)
 abbrev pub workMost : ℕ
-workMost = 65_536
+workMost = 131_072

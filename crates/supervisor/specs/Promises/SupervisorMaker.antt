@@ -71,5 +71,3 @@ pub record MakesSupervisor (s before lent : List ℕ) (r : Made) (after : List �
   pub written : madeNumber r ≡ 0 → (d : Decoded) → Accepted s d → Means d (madeStates r) (take (madeLength r) after)
   -- the bytes of work memory that the constants ask for
   pub work-bytes : askedBytes supervisorWork ≤ workMost
-  -- and what they would ask for if there were twice as many states
-  pub work-doubled : askedBytes (supervisorWorkFor (2 * maxStates)) ≤ 2 * workMost
