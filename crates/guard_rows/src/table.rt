@@ -1,10 +1,11 @@
 // The bytes of a guard table: its head, and a row for each of the guard's states.
-// `ins` is the number of inputs that `lines` lines make; `cells`, `rows`, `order` and `numbers` are as planning leaves them:
+// `ins` is the number of inputs that the input lines make; `cells`, `rows`, `order` and `numbers` are as planning leaves them.
 use crate::states::Row;
 use guard_table::entry::Entry;
 use guard_table::entry::put_entry;
 use guard_table::heads::put_head;
 use guard_table::heads::put_row_header;
+use guard_table::kind::RowKind;
 use guard_table::layout::Layout;
 use sheet::layout::Sheet;
 use values::values::next_of;
@@ -15,6 +16,7 @@ ghost use lib.Seq.{sets};
 ghost use Rattle.records.specs.Meaning.Limits.{maxInputs};
 ghost use Rattle.records.specs.Meaning.Lists.{cat};
 ghost use Rattle.guard_table.specs.Meaning.GuardTable.{headLength, tableLength, rowAt};
+ghost use Rattle.guard_table.specs.Meaning.RowKind.{kindFor};
 ghost use Rattle.guard_table.specs.Model.Inside.{RowInside};
 ghost use Rattle.values.specs.Model.GuardNumbering.{stepsOf};
 ghost use Rattle.guard_rows.specs.Model.Entered.{guardRowBy, tableBy, Entered, Tabled};
@@ -23,23 +25,23 @@ ghost use Rattle.guard_rows.specs.Model.Entered.{guardRowBy, tableBy, En
 // guard state after it.
 pub fn put_row(
     result: &mut [u8],
+    layout: Layout,
     place: usize,
     cells: &[u16],
-    lines: u8,
     ins: usize,
     outs: usize,
     row: u64,
     numbers: &[u16],
     k: usize,
 )
-    requires { ⌜ Entered (stepsOf (now cells) ins outs) row (now numbers) k ⌝ }
-    requires { ⌜ (ins ≡ 2 ^ lines) × RowInside (now result) lines place ⌝ }
+    requires { ⌜ Entered (layout .kind) (stepsOf (now cells) ins outs) row (now numbers) k ⌝ }
+    requires { ⌜ (ins ≡ 2 ^ layout .inputs) × RowInside (now result) (layout .kind) (layout .inputs) place ⌝ }
     ensures { λ _. ⌜
-        now (result .exit) ≡ sets (now (result .entry)) (rowAt lines place)
-        (guardRowBy lines (stepsOf (now (cells .entry)) ins outs) row (now (numbers .entry)) k) ⌝ }
+        now (result .exit) ≡ sets (now (result .entry)) (rowAt (layout .kind) (layout .inputs) place)
+        (guardRowBy (layout .kind) (layout .inputs) (stepsOf (now (cells .entry)) ins outs) row (now (numbers .entry)) k) ⌝ }
 {
-    put_row_header(result, lines, place);
-    let layout = Layout { inputs: lines };
+    let kind = layout.kind;
+    put_row_header(result, layout, place);
     let mut rest = row;
     let mut i: usize = 0;
     while i < ins {
@@ -47,7 +49,8 @@ pub fn put_row(
         rest /= Row::BASE;
         let to = next_of(cells, ins, outs, k, i, output as usize);
         let next = numbers[to] - 1;
-        put_entry(result, layout.entry_at(place, i), Entry { output, next });
+        let at = layout.entry_at(place, i);
+        put_entry(result, at, kind, Entry { output, next });
         i += 1;
     }
 }
@@ -68,14 +71,18 @@ pub fn put_rows(
     requires { ⌜ (ins ≡ 2 ^ lines) × ((lines ≤ maxInputs) × (tableLength lines count ≤ length (now result))) ⌝ }
     ensures { λ _. ⌜
         now (result .exit) ≡ sets (now (result .entry)) headLength
-        (cat count (λ j. guardRowBy lines (stepsOf (now (cells .entry)) ins outs) (getD (now (rows .entry)) j 0) (now (numbers .entry))
+        (cat count (λ j. guardRowBy (kindFor count) lines (stepsOf (now (cells .entry)) ins outs) (getD (now (rows .entry)) j 0) (now (numbers .entry))
         (getD (now (order .entry)) j 0))) ⌝ }
 {
+    let layout = Layout {
+        inputs: lines,
+        kind: RowKind::of(count),
+    };
     let mut j: usize = 0;
     while j < count {
         let row = rows[j];
         let k = order[j] as usize;
-        put_row(result, j, cells, lines, ins, outs, row, numbers, k);
+        put_row(result, layout, j, cells, ins, outs, row, numbers, k);
         j += 1;
     }
 }

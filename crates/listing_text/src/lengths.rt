@@ -9,8 +9,8 @@ ghost use Prim.Native.Nat.{_*_, _^_, _≤_, _<_};
 ghost use lib.ListN.{length};
 ghost use Rattle.records.specs.Meaning.Limits.{maxStates};
 ghost use Rattle.records.specs.Meaning.Lists.{cat};
-ghost use Rattle.guard_table.specs.Meaning.GuardTable.{headLength, headInputs, headCount, nextEnd};
-ghost use Rattle.guard_table.specs.Model.Inside.{Sized};
+ghost use Rattle.guard_table.specs.Meaning.GuardTable.{headLength, headInputs, headCount};
+ghost use Rattle.guard_table.specs.Model.Inside.{Closed};
 ghost use Rattle.listing_text.specs.Meaning.Listing.{decimal, headLine, entryText, entryOf, rowOf, listingOf};
 
 // A number in decimal: a digit, and one for each time that it can be divided by ten.
@@ -29,7 +29,7 @@ pub fn number_length(n: usize) -> usize
 
 // An entry: two marks and two numbers.
 pub fn entry_length(entry: Entry) -> usize
-    requires { ⌜ entry .next < nextEnd ⌝ }
+    requires { ⌜ entry .next < maxStates ⌝ }
     ensures { λ r. ⌜ (r ≡ length (entryText (entry .output) (entry .next))) × (r ≤ 8) ⌝ }
 {
     2 + number_length(entry.output as usize) + number_length(entry.next as usize)
@@ -37,7 +37,7 @@ pub fn entry_length(entry: Entry) -> usize
 
 // The entries of a state.
 pub fn entries_length(table: &[u8], inputs: u8, count: usize, k: usize) -> usize
-    requires { ⌜ Sized (now table) inputs count × (k < count) ⌝ }
+    requires { ⌜ Closed (now table) inputs count × (k < count) ⌝ }
     ensures { λ r. ⌜ (r ≡ length (cat (2 ^ inputs) (entryOf (now (table .entry)) inputs k))) × (r ≤ 128) ⌝ }
 {
     let entries = pow2(inputs);
@@ -53,7 +53,7 @@ pub fn entries_length(table: &[u8], inputs: u8, count: usize, k: usize) -> usize
 
 // The line of a state: its number, a colon, the entries, and the end.
 pub fn row_length(table: &[u8], inputs: u8, count: usize, k: usize) -> usize
-    requires { ⌜ Sized (now table) inputs count × (k < count) ⌝ }
+    requires { ⌜ Closed (now table) inputs count × (k < count) ⌝ }
     ensures { λ r. ⌜ (r ≡ length (rowOf (now (table .entry)) inputs k)) × (r ≤ 133) ⌝ }
 {
     2 + number_length(k) + entries_length(table, inputs, count, k)
@@ -61,7 +61,7 @@ pub fn row_length(table: &[u8], inputs: u8, count: usize, k: usize) -> usize
 
 // The lines of the states.
 pub fn rows_length(table: &[u8], inputs: u8, count: usize) -> usize
-    requires { ⌜ Sized (now table) inputs count ⌝ }
+    requires { ⌜ Closed (now table) inputs count ⌝ }
     ensures { λ r. ⌜ (r ≡ length (cat count (rowOf (now (table .entry)) inputs))) × (r ≤ 133 * maxStates) ⌝ }
 {
     let mut total: usize = 0;
@@ -87,7 +87,7 @@ pub fn head_length(count: usize, inputs: u8, outputs: u8, horizon: u8) -> usize
 
 // The listing of a table.
 pub fn listing_length(table: &[u8]) -> usize
-    requires { ⌜ (headLength ≤ length (now table)) × Sized (now table) (headInputs (now table)) (headCount (now table)) ⌝ }
+    requires { ⌜ (headLength ≤ length (now table)) × Closed (now table) (headInputs (now table)) (headCount (now table)) ⌝ }
     ensures { λ r. ⌜ r ≡ length (listingOf (now (table .entry))) ⌝ }
 {
     let inputs = table[Layout::INPUTS];

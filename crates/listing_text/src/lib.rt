@@ -10,9 +10,10 @@ ghost use mathlib.Core.Path.{_≡_};
 ghost use mathlib.Core.List.{[], _∷_};
 ghost use Prim.Native.Nat.{_+_, _^_, _≤_, _<_};
 ghost use lib.ListN.{length};
+ghost use Rattle.records.specs.Meaning.Limits.{maxStates};
 ghost use Rattle.records.specs.Meaning.Lists.{cat};
-ghost use Rattle.guard_table.specs.Meaning.GuardTable.{headLength, headInputs, headCount, nextEnd};
-ghost use Rattle.guard_table.specs.Model.Inside.{Sized};
+ghost use Rattle.guard_table.specs.Meaning.GuardTable.{headLength, headInputs, headCount};
+ghost use Rattle.guard_table.specs.Model.Inside.{Closed};
 ghost use Rattle.listing_text.specs.Meaning.Listing.{decimal, labelled, headLine, entryText, entryOf, rowOf, listingOf};
 ghost use Rattle.listing_text.specs.Model.Put.{Put};
 
@@ -65,7 +66,7 @@ pub fn put_word(text: &mut [u8], at: usize, word: &[u8]) -> usize
 
 // An entry, ' output>next'.
 pub fn put_entry(text: &mut [u8], at: usize, entry: Entry) -> usize
-    requires { ⌜ (at + length (entryText (entry .output) (entry .next)) ≤ length (now text)) × (entry .next < nextEnd) ⌝ }
+    requires { ⌜ (at + length (entryText (entry .output) (entry .next)) ≤ length (now text)) × (entry .next < maxStates) ⌝ }
     ensures { λ r. ⌜ Put (now (text .entry)) at (entryText (entry .output) (entry .next)) r (now (text .exit)) ⌝ }
 {
     let start = put_byte(text, at, b' ');
@@ -83,7 +84,7 @@ pub fn put_entries(
     count: usize,
     k: usize,
 ) -> usize
-    requires { ⌜ Sized (now table) inputs count × (k < count) ⌝ }
+    requires { ⌜ Closed (now table) inputs count × (k < count) ⌝ }
     requires { ⌜ at + length (cat (2 ^ inputs) (entryOf (now table) inputs k)) ≤ length (now text) ⌝ }
     ensures { λ r. ⌜ Put (now (text .entry)) at (cat (2 ^ inputs) (entryOf (now (table .entry)) inputs k)) r (now (text .exit)) ⌝ }
 {
@@ -107,7 +108,7 @@ pub fn put_row(
     count: usize,
     k: usize,
 ) -> usize
-    requires { ⌜ Sized (now table) inputs count × (k < count) ⌝ }
+    requires { ⌜ Closed (now table) inputs count × (k < count) ⌝ }
     requires { ⌜ at + length (rowOf (now table) inputs k) ≤ length (now text) ⌝ }
     ensures { λ r. ⌜ Put (now (text .entry)) at (rowOf (now (table .entry)) inputs k) r (now (text .exit)) ⌝ }
 {
@@ -119,7 +120,7 @@ pub fn put_row(
 
 // The lines of the states.
 pub fn put_rows(text: &mut [u8], at: usize, table: &[u8], inputs: u8, count: usize) -> usize
-    requires { ⌜ Sized (now table) inputs count ⌝ }
+    requires { ⌜ Closed (now table) inputs count ⌝ }
     requires { ⌜ at + length (cat count (rowOf (now table) inputs)) ≤ length (now text) ⌝ }
     ensures { λ r. ⌜ Put (now (text .entry)) at (cat count (rowOf (now (table .entry)) inputs)) r (now (text .exit)) ⌝ }
 {
@@ -155,7 +156,7 @@ pub fn put_head(text: &mut [u8], count: usize, inputs: u8, outputs: u8, horizon:
 
 // The listing of a table.
 pub fn put_listing(text: &mut [u8], table: &[u8]) -> usize
-    requires { ⌜ (headLength ≤ length (now table)) × Sized (now table) (headInputs (now table)) (headCount (now table)) ⌝ }
+    requires { ⌜ (headLength ≤ length (now table)) × Closed (now table) (headInputs (now table)) (headCount (now table)) ⌝ }
     requires { ⌜ length (listingOf (now table)) ≤ length (now text) ⌝ }
     ensures { λ r. ⌜ Put (now (text .entry)) 0 (listingOf (now (table .entry))) r (now (text .exit)) ⌝ }
 {

@@ -13,7 +13,8 @@ use Rattle.records.specs.Laws.Digits.{digit-packed}
 use Rattle.rounds.specs.Laws.CellPlaces.{row-in-table}
 use Rattle.game.specs.Model.Numbering.{there, find}
 use Rattle.guard_table.specs.Meaning.GuardTable.{guardTable}
-use Rattle.guard_table.specs.Laws.GuardTable.{table-ext}
+use Rattle.guard_table.specs.Meaning.RowKind.{kindFor}
+use Rattle.guard_table.specs.Laws.GuardTable.{kind-names, table-ext}
 use Rattle.values.specs.Model.Values.{Game, cellNext}
 use Rattle.values.specs.Model.GuardStates.{chosen, follows, guardStates}
 use Rattle.values.specs.Model.GuardNumbering.{GuardReached, Following}
@@ -79,12 +80,12 @@ module _ {g : Game} {choices rows order numbers : List ℕ} {n count : ℕ} (fol
         ≡ guardTable mode lines outs horizon count (λ j. chosen g choices (getD order j 0))
         (λ j i. getD numbers (follows g choices (getD order j 0) i) 0 - 1)
     table-chosen mode lines outs horizon e =
-        table-ext mode lines outs horizon count _ _ _ _ (λ j i hj hi. row-chosen j i hj (omega arith))
+        table-ext (kindFor count) mode lines outs horizon count _ _ _ _ (λ j i hj hi. row-chosen j i hj (omega arith))
         (λ j i hj hi. number-chosen j i hj (omega arith))
 
     -- and its entries can be read
     module _ (rows-room : n ≤ length rows) (order-room : n ≤ length order) (numbers-room : n ≤ length numbers) where
-      entered : (j : ℕ) → j < count → Entered g (getD rows j 0) numbers (getD order j 0)
+      entered : (j : ℕ) → j < count → Entered (kindFor count) g (getD rows j 0) numbers (getD order j 0)
       entered j h =
           record {
             steps = omega (arith, row-in-table (g .ins * g .outs) (low j h), following .steps .rows);
@@ -92,7 +93,7 @@ module _ {g : Game} {choices rows order numbers : List ℕ} {n count : ℕ} (fol
             room = λ i hi. rw (next-chosen j i h hi) (omega (arith, next-low i hi));
             least = λ i hi. rw (next-chosen j i h hi, entry i hi) (omega arith);
             most = λ i hi. rw (next-chosen j i h hi, entry i hi)
-                (omega (arith, count-most, following .states, guarded .numbered .counted, has i hi));
+                (omega (arith, kind-names count (omega (arith, count-most, following .states)), guarded .numbered .counted, has i hi));
           }
         where
           onward : (i : ℕ) → i < g .ins → GuardReached g choices (follows g choices (getD order j 0) i)

@@ -6,7 +6,9 @@ use Prim.Native.Nat.{ℕ, _+_, _-_, _*_, _≤_, _<_}
 use lib.ListN.{length, getD}
 use Rattle.records.specs.Meaning.Limits.{maxStates, maxOuts}
 use Rattle.records.specs.Model.Digits.{digit}
-use Rattle.guard_table.specs.Meaning.GuardTable.{nextEnd, guardRow, guardTable}
+use Rattle.guard_table.specs.Meaning.RowKind.{statesMost, kindFor}
+use Rattle.guard_table.specs.Meaning.GuardTable.{guardRow, guardTable}
+use Rattle.guard_table.specs.declared.kind.RowKind.{RowKind}
 use Rattle.values.specs.Model.Values.{Game, cellNext}
 
 -- ---- an entry
@@ -23,9 +25,9 @@ nextBy g row k i = cellNext g k i (outputBy row i)
 unfoldable pub numbered : Game → ℕ → List ℕ → ℕ → ℕ → ℕ
 numbered g row numbers k i = getD numbers (nextBy g row k i) 0 - 1
 
--- the row of product state k in the table
-abbrev pub guardRowBy : ℕ → Game → ℕ → List ℕ → ℕ → List ℕ
-guardRowBy lines g row numbers k = guardRow lines (outputBy row) (numbered g row numbers k)
+-- the row of product state k in the table, in a kind of rows
+abbrev pub guardRowBy : RowKind → ℕ → Game → ℕ → List ℕ → ℕ → List ℕ
+guardRowBy kind lines g row numbers k = guardRow kind lines (outputBy row) (numbered g row numbers k)
 
 -- a table of the entries of the product states in `order`, by their rows
 abbrev pub tableBy : ℕ → ℕ → ℕ → ℕ → ℕ → Game → List ℕ → List ℕ → List ℕ → List ℕ
@@ -35,17 +37,17 @@ tableBy mode lines outs horizon count g rows order numbers =
 
 -- ---- what the code relies on
 
--- product state k has its steps in the table, and its row's outputs lead to states that have numbers
-pub record Entered (g : Game) (row : ℕ) (numbers : List ℕ) (k : ℕ) : Type 0 where
+-- product state k has its steps in the table, and its row's outputs lead to states that have numbers, which the rows can name
+pub record Entered (kind : RowKind) (g : Game) (row : ℕ) (numbers : List ℕ) (k : ℕ) : Type 0 where
   pub steps : k * (g .ins * g .outs) + g .ins * g .outs ≤ length (g .cells)
   pub output : (i : ℕ) → i < g .ins → outputBy row i < g .outs
   pub room : (i : ℕ) → i < g .ins → nextBy g row k i < length numbers
   pub least : (i : ℕ) → i < g .ins → 1 ≤ getD numbers (nextBy g row k i) 0
-  pub most : (i : ℕ) → i < g .ins → getD numbers (nextBy g row k i) 0 ≤ nextEnd
+  pub most : (i : ℕ) → i < g .ins → getD numbers (nextBy g row k i) 0 ≤ statesMost kind
 
 -- so has each of `count` guard states
 pub record Tabled (g : Game) (rows order numbers : List ℕ) (count : ℕ) : Type 0 where
   pub few : count ≤ maxStates
   pub rows-room : count ≤ length rows
   pub order-room : count ≤ length order
-  pub entered : (j : ℕ) → j < count → Entered g (getD rows j 0) numbers (getD order j 0)
+  pub entered : (j : ℕ) → j < count → Entered (kindFor count) g (getD rows j 0) numbers (getD order j 0)

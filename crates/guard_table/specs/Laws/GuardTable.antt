@@ -5,6 +5,7 @@ use mathlib.Core.Bool.{true}
 use mathlib.Core.List.{List, _∷_, _++_}
 use Prim.Native.Nat.{ℕ, _+_, _*_, _^_, _/_, _%_, _≤_, _<_}
 use native.Mathlib.Nat.{suc-mul, mul-comm, mul-le-mul, mul-le-mul-right, mul-zero, zero-mul, add-zero}
+use native.Mathlib.Decide.{decLe}
 use native.Mathlib.Omega.{arith}
 use lib.ListN.{length, getD, length-append}
 use lib.Pow.{pow-mono}
@@ -46,6 +47,10 @@ kind-narrow n h = simp (le-leb n narrowMost h)
 pub kind-wide : (count : ℕ) → narrowMost < count → kindFor count ≡ Wide
 unfolding kindFor
 kind-wide n h = simp (lt-leb n narrowMost h)
+
+pub kind-names : (count : ℕ) → count ≤ maxStates → count ≤ statesMost (kindFor count)
+kind-names n h =
+    elim (decLe n narrowMost) [ yes l ↦ rw (kind-narrow n l) l | no l ↦ rw (kind-wide n (omega arith)) h ]
 
 -- ---- inside a table of `count` states
 
@@ -111,6 +116,11 @@ pub entry-inside : {t : List ℕ} {inputs place input : ℕ} → RowInside t (ki
 entry-inside {t} r l =
     record { inputs-most = r .inputs-most; place-most = r .place-most; low = l; ends = entry-ends (kindOf t) r l }
 
+-- a next state that was read from a table whose next states are its own is below the number of states that there may be
+pub next-few : {t : List ℕ} {inputs count : ℕ} → Closed t inputs count → (place input : ℕ) → place < count → input < 2 ^ inputs
+    → {next : ℕ} → next ≡ nextIn t inputs place input → next < maxStates
+next-few c k i h l e = omega (arith, c .next-low k i h l, c .sized .count-most)
+
 -- a slice with an entry inside shows its first row's kind
 pub inside-shows : {t : List ℕ} {inputs place input : ℕ} → Inside t inputs place input → shownLength ≤ length t
 unfolding entryAt rowAt
@@ -137,7 +147,7 @@ module _ (t : List ℕ) (inputs place input : ℕ) {kind : RowKind} (shown : kin
 -- ---- a row
 
 module _ (kind : RowKind) where
-  length-entry : (output next : ℕ) → length (guardEntry kind output next) ≡ entryWidth kind
+  pub length-entry : (output next : ℕ) → length (guardEntry kind output next) ≡ entryWidth kind
   length-entry o n = elim kind [ Narrow ↦ refl | Wide ↦ refl ]
 
   pub length-row : (inputs : ℕ) (out next : ℕ → ℕ) → length (guardRow kind inputs out next) ≡ rowLength kind inputs

@@ -4,7 +4,7 @@ use mathlib.Core.List.{List}
 use Prim.Native.Nat.{ℕ, _-_, _^_, _≤_, _<_}
 use native.Mathlib.Omega.{arith}
 use Rattle.records.specs.Meaning.Lists.{cat}
-use Rattle.guard_table.specs.Laws.GuardTable.{sized-row, entry-inside}
+use Rattle.guard_table.specs.Laws.GuardTable.{sized-row, entry-inside, next-few}
 use Rattle.listing_text.specs.Meaning.Listing.{entryText, entryOf}
 use Rattle.listing_text.specs.Model.Put.{Put}
 use Rattle.listing_text.specs.Laws.Pieces.{put-same, piece-none, piece-more, put-all, put-as, fits-next, entry-found}
@@ -36,23 +36,23 @@ low c = omega (arith, c .before .before .pow2 .ensures)
 -- the entry that was read is the next one
 found : (c : tie.After-entry-in Inv-loop μ-loop)
     → entryText (c .entry-in .result .output) (c .entry-in .result .next) ≡ entries (start (turn c)) (turn c .loop .i)
-found c = entry-found _ _ _ _ (c .entry-in .ensures .0) (c .entry-in .ensures .1 .0)
+found c = entry-found _ _ _ _ (c .entry-in .ensures .0) (c .entry-in .ensures .1)
 
 pow2-requires : tie.Need-pow2-requires Inv-loop μ-loop
-pow2-requires c κs = omega (arith, c .before .before .pre .0 .0 .inputs-most)
+pow2-requires c κs = omega (arith, c .before .before .pre .0 .0 .sized .inputs-most)
 
 loop-holds : tie.Need-loop-holds Inv-loop μ-loop
 loop-holds c = (omega arith, piece-none _ _ _)
 
 entry-in-requires : tie.Need-entry-in-requires Inv-loop μ-loop
-entry-in-requires c κs = let s = start (c .before) in entry-inside (sized-row (s .pre .0 .0) (s .pre .0 .1)) (low c)
+entry-in-requires c κs = let s = start (c .before) in entry-inside (sized-row (s .pre .0 .0 .sized) (s .pre .0 .1)) (low c)
 
 put-entry-requires : tie.Need-put-entry-requires Inv-loop μ-loop
 put-entry-requires c κs =
     let at = c .before in
     let s = start (turn at) in
     let room = fits-next (entries s) (turn at .loop .i) (2 ^ s .args .inputs) (low (at .before)) (turn at .loop .inv .1) (s .pre .1) in
-    (rw (found at) room, at .entry-in .ensures .1 .1)
+    (rw (found at) room, next-few (s .pre .0 .0) _ _ (s .pre .0 .1) (low (at .before)) (at .entry-in .ensures .1))
 
 add-i : tie.Need-add-i Inv-loop μ-loop
 add-i c = omega arith

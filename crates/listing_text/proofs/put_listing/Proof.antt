@@ -51,7 +51,7 @@ shared-slice-read-put-head-2 c = omega arith
 
 put-head-requires : tie.Need-put-head-requires
 put-head-requires c κs = let at = counted c in
-    (omega (arith, start at .pre .0 .1 .count-most, at .u16-at .ensures), omega (arith, room at, length-append (head at) (rows at)))
+    (omega (arith, start at .pre .0 .1 .sized .count-most, at .u16-at .ensures), omega (arith, room at, length-append (head at) (rows at)))
 
 put-rows-requires : tie.Need-put-rows-requires
 put-rows-requires c κs = let done = headed c in

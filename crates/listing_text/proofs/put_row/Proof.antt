@@ -47,7 +47,7 @@ room3 c = fits-rest (c .put-entries .ensures) lineEnd (room2 (colon (c .before))
 put-number-requires : tie.Need-put-number-requires
 unfolding rowOf rowText entryOf
 put-number-requires c κs = let s = start c in (
-  omega (arith, s .pre .0 .0 .count-most, s .pre .0 .1),
+  omega (arith, s .pre .0 .0 .sized .count-most, s .pre .0 .1),
   omega (arith, s .pre .1, length-append (decimal (s .args .k)) (58 ∷ (entries s ++ lineEnd))),
 )
 

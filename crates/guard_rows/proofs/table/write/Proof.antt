@@ -1,6 +1,6 @@
 -- `guard_rows::table::write`: the head and the rows, one after the other. Assumes nothing.
 use native.Mathlib.Omega.{arith}
-use Rattle.guard_table.specs.Meaning.GuardTable.{tableLength}
+use Rattle.guard_table.specs.Meaning.GuardTable.{lengthIn}
 use Rattle.values.specs.Model.GuardNumbering.{stepsOf}
 use Rattle.guard_rows.proofs.Stores.{table-stored}
 use borrow.Author.Needs.{needs}
@@ -21,7 +21,7 @@ cast-put-head : tie.Need-cast-put-head
 cast-put-head c = omega (arith, start c .pre .0 .few)
 
 put-head-requires : tie.Need-put-head-requires
-unfolding tableLength
+unfolding lengthIn
 put-head-requires c κs = omega (arith, start c .pre .1 .1 .1)
 
 put-rows-requires : tie.Need-put-rows-requires

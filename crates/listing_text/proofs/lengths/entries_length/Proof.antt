@@ -1,13 +1,13 @@
 -- `listing_text::lengths::entries_length`: the lengths of the entries of the inputs before i are added up. Assumes nothing.
 use mathlib.Core.Path.{_≡_, sym, ap, _∙_}
 use mathlib.Core.List.{List}
-use Prim.Native.Nat.{ℕ, _-_, _*_, _^_, _≤_}
+use Prim.Native.Nat.{ℕ, _-_, _*_, _^_, _≤_, _<_}
 use native.Mathlib.Omega.{arith}
 use lib.ListN.{length}
 use lib.Pow.{pow-mono}
 use borrow.Author.Needs.{needs}
 use Rattle.records.specs.Meaning.Lists.{cat}
-use Rattle.guard_table.specs.Laws.GuardTable.{sized-row, entry-inside}
+use Rattle.guard_table.specs.Laws.GuardTable.{sized-row, entry-inside, next-few}
 use Rattle.listing_text.specs.Meaning.Listing.{entryOf}
 use Rattle.listing_text.specs.Laws.Pieces.{entry-found}
 use Rattle.listing_text.specs.Laws.Lengths.{length-none, length-more}
@@ -33,26 +33,32 @@ abbrev entries : tie.Start Inv-loop μ-loop → ℕ → List ℕ
 entries c = let a = c .args in entryOf (a .table .now) (a .inputs) (a .k)
 
 few : (c : tie.Start Inv-loop μ-loop) → 2 ^ c .args .inputs ≤ 16
-few c = pow-mono {j = 4} (c .pre .0 .inputs-most)
+few c = pow-mono {j = 4} (c .pre .0 .sized .inputs-most)
+
+-- the input is one of those that there are
+low : (c : tie.In-loop Inv-loop μ-loop) → c .before .loop .i < 2 ^ start (c .before) .args .inputs
+low c = omega (arith, c .before .before .pow2 .ensures)
 
 -- the length that was added is that of the next one
 found : (c : tie.After-entry-length Inv-loop μ-loop) → c .entry-length .result ≡ length (entries (start (turn c)) (turn c .loop .i))
 found c =
     let read = c .before .entry-in .ensures in
-    c .entry-length .ensures .0 ∙ ap length (entry-found _ _ _ _ (read .0) (read .1 .0))
+    c .entry-length .ensures .0 ∙ ap length (entry-found _ _ _ _ (read .0) (read .1))
 
 pow2-requires : tie.Need-pow2-requires Inv-loop μ-loop
-pow2-requires c κs = omega (arith, c .before .pre .0 .inputs-most)
+pow2-requires c κs = omega (arith, c .before .pre .0 .sized .inputs-most)
 
 loop-holds : tie.Need-loop-holds Inv-loop μ-loop
 loop-holds c = (omega arith, (sym (length-none _), omega arith))
 
 entry-in-requires : tie.Need-entry-in-requires Inv-loop μ-loop
-entry-in-requires c κs = let s = start (c .before) in
-    entry-inside (sized-row (s .pre .0) (s .pre .1)) (omega (arith, c .before .before .pow2 .ensures))
+entry-in-requires c κs = let s = start (c .before) in entry-inside (sized-row (s .pre .0 .sized) (s .pre .1)) (low c)
 
 entry-length-requires : tie.Need-entry-length-requires Inv-loop μ-loop
-entry-length-requires c κs = search needs
+entry-length-requires c κs =
+    let at = c .before in
+    let s = start (at .before) in
+    next-few (s .pre .0) _ _ (s .pre .1) (low at) (c .entry-in .ensures .1)
 
 add-total : tie.Need-add-total Inv-loop μ-loop
 add-total c = omega (arith, few (start (turn c)), turn c .before .pow2 .ensures)

@@ -32,7 +32,7 @@ row-length-requires : tie.Need-row-length-requires Inv-loop μ-loop
 row-length-requires c κs = (start (c .before) .pre, omega arith)
 
 add-total : tie.Need-add-total Inv-loop μ-loop
-add-total c = omega (arith, start (c .before .before) .pre .count-most)
+add-total c = omega (arith, start (c .before .before) .pre .sized .count-most)
 
 add-k : tie.Need-add-k Inv-loop μ-loop
 add-k c = omega arith
@@ -48,7 +48,7 @@ returns c =
     let at = c .before in
     let s = start at in
     let all : at .loop .k ≡ s .args .count = omega arith in
-    (at .loop .inv .1 .0 ∙ ap (λ (n : ℕ). length (cat n (rows s))) all, omega (arith, s .pre .count-most))
+    (at .loop .inv .1 .0 ∙ ap (λ (n : ℕ). length (cat n (rows s))) all, omega (arith, s .pre .sized .count-most))
 
 pub rows-length-spec : {M : Type 1} → statement M
 rows-length-spec =
