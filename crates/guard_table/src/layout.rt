@@ -5,7 +5,7 @@ use records::numbers::pow2;
 ghost use mathlib.Core.Path.{_≡_};
 ghost use Prim.Native.Nat.{_+_, _≤_};
 ghost use Rattle.records.specs.Meaning.Limits.{maxInputs, maxIns, maxStates};
-ghost use Rattle.guard_table.specs.Meaning.GuardTable.{rowSize, rowLength, lengthIn, rowAt, entryAt};
+ghost use Rattle.guard_table.specs.Meaning.GuardTable.{rowSize, rowLength, lengthIn, tableLength, rowAt, entryAt};
 ghost use Rattle.guard_table.specs.Model.Inside.{rowMost, tableMost};
 
 // The guard table's sizes, for so many input lines and rows of a kind.
@@ -88,4 +88,16 @@ impl Layout {
         let kind = self.kind;
         self.row_at(place) + (Layout::HEADER + kind.width() * input)
     }
+}
+
+// The bytes of the table of a guard with so many states.
+pub fn guard_length(inputs: u8, count: usize) -> usize
+    requires { ⌜ (inputs ≤ maxInputs) × (count ≤ maxStates) ⌝ }
+    ensures { λ r. ⌜ r ≡ tableLength inputs count ⌝ }
+{
+    let layout = Layout {
+        inputs,
+        kind: RowKind::of(count),
+    };
+    layout.table_length(count)
 }

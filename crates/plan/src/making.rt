@@ -1,7 +1,7 @@
 // The maker of guard tables, but for the work memory, which is left as it falls.
 use crate::horizon::plan;
 use guard_rows::table::write;
-use guard_table::layout::Layout;
+use guard_table::layout::guard_length;
 use records::numbers::pow2;
 use sheet::layout::Refusal;
 use sheet::layout::Verdict;
@@ -61,10 +61,7 @@ pub fn make_with(
                 order,
                 numbers,
             );
-            let layout = Layout {
-                inputs: sheet.inputs,
-            };
-            let length = layout.table_length(count);
+            let length = guard_length(sheet.inputs, count);
             if result.len() < length {
                 return Made::Refused(Refusal::ShortResult);
             }

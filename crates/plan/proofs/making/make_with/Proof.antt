@@ -36,7 +36,7 @@ counted c = called (c .before)
 abbrev left : tie.After-slice-known19 → tie.After-plan
 left c = c .before .before .before .before .before .before .before .before .before .before .before .before
 
-abbrev planned : tie.After-table-length → tie.After-plan
+abbrev planned : tie.After-guard-length → tie.After-plan
 planned c = left (c .before)
 
 abbrev refused : tie.After-known-told → tie.After-open-sheet
@@ -111,8 +111,8 @@ plan-requires c κs = let at = called c in
     let r = ready (told at) in
     (r .fits, (playable (r .solution), ((at .before .pow2 .ensures, (at .pow22 .ensures, horizon-in-bounds (r .fits))), long (told at))))
 
-table-length-requires : tie.Need-table-length-requires
-table-length-requires c κs = let at = left c in
+guard-length-requires : tie.Need-guard-length-requires
+guard-length-requires c κs = let at = left c in
     (inputs-low (ready (told (counted at)) .fits), at .plan .ensures .tabled .few)
 
 same-length : tie.Need-same-length
@@ -147,7 +147,7 @@ returns c = let at = planned (c .before) in
     let r = ready (told (counted at)) in
     r .answers guardTableOf statesOf
     (layout-short ownHorizon (r .fits) (playable (r .solution)) (own-horizon _ _) (at .plan .ensures)
-    (entry (first at) .args .result .now) (c .before .table-length .ensures) (omega arith))
+    (entry (first at) .args .result .now) (c .before .guard-length .ensures) (omega arith))
 
 write-requires : tie.Need-write-requires
 write-requires c κs = let sized = room c .before in
@@ -155,7 +155,7 @@ write-requires c κs = let sized = room c .before in
       at .plan .ensures .tabled,
       (
         counted at .before .pow2 .ensures,
-        (inputs-low (ready (told (counted at)) .fits), omega (arith, sized .table-length .ensures, room c .if1 .left)),
+        (inputs-low (ready (told (counted at)) .fits), omega (arith, sized .guard-length .ensures, room c .if1 .left)),
       ),
     )
 
@@ -207,7 +207,7 @@ returns-3 c = let at = planned (fit c .before) in
     let r = ready (told (counted at)) in
     r .answers guardTableOf statesOf
     (layout-written ownHorizon (r .fits) (playable (r .solution)) (own-horizon _ _) (at .plan .ensures)
-    (entry (first at) .args .result .now) (fit c .before .table-length .ensures) (omega (arith, fit c .if1 .left))
+    (entry (first at) .args .result .now) (fit c .before .guard-length .ensures) (omega (arith, fit c .if1 .left))
     (wrote c .write .ensures))
 
 pub make-with-spec : {M : Type 1} → statement M
@@ -220,7 +220,7 @@ make-with-spec =
     pow2-requires
     pow2-requires-2
     plan-requires
-    table-length-requires
+    guard-length-requires
     same-length
     same-length-2
     same-length-3
