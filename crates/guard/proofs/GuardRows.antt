@@ -9,11 +9,17 @@ use lib.Dec.{eqb}
 use lib.ListN.{length, getD}
 use Rattle.records.specs.Meaning.Limits.{maxStates}
 use Rattle.records.specs.Laws.Lists.{length-tab}
-use Rattle.guard_table.specs.Laws.GuardTable.{table-ext}
+use Rattle.guard_table.specs.Meaning.RowKind.{narrowMost, kindFor}
+use Rattle.guard_table.specs.Meaning.GuardTable.{tableIn}
+use Rattle.guard_table.specs.Meaning.NarrowTable.{narrowTable}
+use Rattle.guard_table.specs.declared.kind.RowKind.{RowKind}
+use Rattle.guard_table.specs.Laws.GuardTable.{kind-narrow, table-ext, table-narrow}
 use Rattle.sheet.specs.Meaning.Decoded.{Decoded, SheetOk, inputLines}
 use Rattle.product.specs.Meaning.Step.{inputsOf, advance, firstTuple}
 use Rattle.product.specs.Model.ProductNumbering.{stateCount, stateOf, numberOf}
+use Rattle.product.specs.Meaning.States.{ProductStates}
 use Rattle.product.specs.Laws.ProductNumbering.{first-state, state-number}
+use Rattle.product.specs.Laws.Ordered.{states-counted}
 use Rattle.game.specs.Model.Numbering.{here, there}
 use Rattle.game.specs.Laws.Numbering.{distinct-number}
 use Rattle.game.specs.Laws.Explored.{explored-first-met}
@@ -189,6 +195,26 @@ module _ (d : Decoded) (ok : SheetOk d) (fits : stateCount d ≤ maxStates) (rea
     -- two tables with these rows are one
     pub only-rows : (n ≡ m) × (t ≡ u)
     only-rows =
-        let entries = table-ext (d .mode) (inputLines d) (d .outputs) h n (x .output) (x .next) (y .output) (y .next)
+        let entries = table-ext (kindFor n) (d .mode) (inputLines d) (d .outputs) h n (x .output) (x .next) (y .output) (y .next)
         (λ k i hn hi. same-output k i hn hi) (λ k i hn hi. same-next k i hn hi) in
         (same-count, x .bytes ∙ entries ∙ rw same-count (sym (y .bytes)))
+
+  -- ---- where there are at most 256 product states
+
+  module _ (states : List (List ℕ)) (listed : ProductStates d states) (small : length states ≤ narrowMost) {n : ℕ} {t : List ℕ}
+      (r : Rows d h n t) where
+    -- the guard has no more, so its rows are narrow
+    few : n ≤ narrowMost
+    few =
+        omega (
+          arith,
+          only-rows r table-rows .0,
+          guard-fits d fits h start,
+          states-counted d fits states listed,
+        )
+
+    pub narrow-rows : t ≡ narrowTable (d .mode) (inputLines d) (d .outputs) h n (r .output) (r .next)
+    narrow-rows =
+        r .bytes
+        ∙ ap (λ (k : RowKind). tableIn k (d .mode) (inputLines d) (d .outputs) h n (r .output) (r .next)) (kind-narrow n few)
+        ∙ table-narrow (d .mode) (inputLines d) (d .outputs) h n (r .output) (r .next)

@@ -21,7 +21,7 @@ use Rattle.plan.specs.Laws.Solved.{sheet-horizon}
 use Rattle.plan.specs.Model.GuardOfSheet.{guardTableBy, statesBy, ownHorizon, guardTableOf, statesOf}
 use Rattle.guard.specs.Promises.GuardMaker.{guardWork, Rows, MakesOver, MakesGuard}
 use Rattle.guard.proofs.FaithfulTable.{faithful}
-use Rattle.guard.proofs.GuardRows.{table-rows, only-rows}
+use Rattle.guard.proofs.GuardRows.{table-rows, only-rows, narrow-rows}
 
 -- a horizon that is found from the sheet keeps the bounds of sheets in bounds
 abbrev InBounds : (Decoded → ℕ) → Type 0
@@ -38,6 +38,8 @@ guard-makes horizon near {s} {before} {r} {after} lent answers read only =
       rows = rows;
       only = λ d a n table x.
           only-rows d (a .sheet .in-bounds) (accepted-layout a) (a .realizable) (horizon d) x (rows d a) .1;
+      narrow = λ d a states listed small n table x.
+          narrow-rows d (a .sheet .in-bounds) (accepted-layout a) (a .realizable) (horizon d) states listed small x;
       written = λ e d a. let y = all .written e d (a .sheet) in rw (y .count, written-front y) (rows d a);
       faithful = λ e d a.
           rw (written-front (all .written e d (a .sheet)))

@@ -16,7 +16,8 @@ use Rattle.records.specs.Meaning.Numbers.{Bytes}
 use Rattle.records.specs.Meaning.Work.{longEnough}
 use Rattle.records.specs.Laws.Work.{exactly, exactly-enough}
 use Rattle.guard_table.specs.Model.Inside.{tableMost}
-use Rattle.guard_table.specs.Laws.GuardTable.{table-most}
+use Rattle.guard_table.specs.Meaning.RowKind.{kindFor}
+use Rattle.guard_table.specs.Laws.GuardTable.{length-most}
 use Rattle.sheet.specs.Meaning.Decoded.{Decoded, SheetOk, inputLines}
 use Rattle.sheet.specs.Meaning.Grounds.{groundNumber}
 use Rattle.sheet.specs.Laws.Grounds.{some-number}
@@ -80,7 +81,7 @@ module _ (d : Decoded) (ok : SheetOk d) (fits : stateCount d ≤ maxStates) (sta
   short : length (guardTableOf d) ≤ tableMost
   short =
       let few : statesOf d ≤ maxStates = omega (arith, guard-fits d fits (d .horizon) start) in
-      omega (arith, length-guard ownHorizon d, table-most (inputLines d) (statesOf d) (ok .head .inputs) few)
+      omega (arith, length-guard ownHorizon d, length-most (kindFor (statesOf d)) (inputLines d) (statesOf d) (ok .head .inputs) few)
 
 -- ---- the number of the maker's answer
 

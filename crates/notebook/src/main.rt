@@ -44,4 +44,6 @@ fn report(n: usize, m: usize)
 fn main() {
     report(32, 8);
     report(32, 9);
+    report(32, 16);
+    report(32, 17);
 }

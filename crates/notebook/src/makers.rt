@@ -1,6 +1,7 @@
 // The makers, on sheets of two counters and with work memory of their own.
 use crate::counters::put_sheet;
 use guard::make::Guard;
+use guard_table::layout::Layout;
 use solve::made::Made;
 use supervisor::make::Supervisor;
 ghost use Prim.Native.Nat.{_≤_};
@@ -8,11 +9,12 @@ ghost use Rattle.product.specs.Model.ProductNumbering.{stateCount};
 ghost use Rattle.supervisor.specs.Model.SupervisorOfSheet.{supervisorTable};
 ghost use Rattle.plan.specs.Model.GuardOfSheet.{guardTableOf, statesOf};
 ghost use Rattle.notebook.specs.Model.Counters.{sheetBytes, Answered};
+ghost use Rattle.notebook.specs.Model.Figures.{room};
 
 fn supervisor_of(sheet: &[u8]) -> Made
-    ensures { λ r. ⌜ Answered supervisorTable stateCount (now (sheet .entry)) 2048 r ⌝ }
+    ensures { λ r. ⌜ Answered supervisorTable stateCount (now (sheet .entry)) room r ⌝ }
 {
-    let mut result = [0u8; 2048];
+    let mut result = [0u8; Layout::MOST];
     let mut tuples = [0u64; Supervisor::TUPLES];
     let mut cells = [0u16; Supervisor::CELLS];
     let mut dropped = [0u16; Supervisor::DROPPED];
@@ -20,9 +22,9 @@ fn supervisor_of(sheet: &[u8]) -> Made
 }
 
 fn guard_of(sheet: &[u8]) -> Made
-    ensures { λ r. ⌜ Answered guardTableOf statesOf (now (sheet .entry)) 2048 r ⌝ }
+    ensures { λ r. ⌜ Answered guardTableOf statesOf (now (sheet .entry)) room r ⌝ }
 {
-    let mut result = [0u8; 2048];
+    let mut result = [0u8; Layout::MOST];
     let mut tuples = [0u64; Guard::TUPLES];
     let mut cells = [0u16; Guard::CELLS];
     let mut dropped = [0u16; Guard::DROPPED];
@@ -50,7 +52,7 @@ fn guard_of(sheet: &[u8]) -> Made
 // What the supervisor's maker answers to counters of n and m states.
 pub fn counters_supervisor(n: usize, m: usize) -> Made
     requires { ⌜ (n ≤ 32) × (m ≤ 32) ⌝ }
-    ensures { λ r. ⌜ Answered supervisorTable stateCount (sheetBytes n m) 2048 r ⌝ }
+    ensures { λ r. ⌜ Answered supervisorTable stateCount (sheetBytes n m) room r ⌝ }
 {
     let mut sheet = [0u8; 512];
     let size = put_sheet(&mut sheet, n, m);
@@ -60,7 +62,7 @@ pub fn counters_supervisor(n: usize, m: usize) -> Made
 // And the guard's.
 pub fn counters_guard(n: usize, m: usize) -> Made
     requires { ⌜ (n ≤ 32) × (m ≤ 32) ⌝ }
-    ensures { λ r. ⌜ Answered guardTableOf statesOf (sheetBytes n m) 2048 r ⌝ }
+    ensures { λ r. ⌜ Answered guardTableOf statesOf (sheetBytes n m) room r ⌝ }
 {
     let mut sheet = [0u8; 512];
     let size = put_sheet(&mut sheet, n, m);

@@ -1,4 +1,4 @@
--- `forced_rows::answer_length`: at most eleven bytes for each of at most 256 states. Assumes nothing.
+-- `forced_rows::answer_length`: at most eleven bytes for each of at most 512 states. Assumes nothing.
 use mathlib.Core.Path.{refl}
 use Prim.Native.Nat.{_+_}
 use native.Mathlib.Nat.{mul-le-mul}

@@ -197,7 +197,7 @@ module _ (d : Decoded) (fits : stateCount d ≤ maxStates) {c e : Card} (x : For
         | no l ↦ x .past k (omega arith) h ∙ sym (y .past k (omega (arith, same-count)) h)
       ]))
 
-  -- two cards of 256 entries that foretell the same are one
+  -- two cards of 512 entries that foretell the same are one
   pub only-card : length (c .entries) ≡ maxStates → length (e .entries) ≡ maxStates → c ≡ e
   only-card long wide =
       ap₂ {C = Card} (λ (n : ℕ) (l : List Entry). record { count = n; entries = l }) same-count

@@ -67,10 +67,10 @@ pub record Unforetold (card : Card) : Type 0 where
 pub record MakesForecast (s lent : List ℕ) (r : Forecasting) : Type 0 where
   pub answers : AnswersForecast (longEnough forecastWork lent) s r
   pub opens : OpensSheet (longEnough forecastWork lent) s (verdictNumber (r .verdict))
-  -- a card has 256 entries
+  -- a card has 512 entries
   pub entries : length (r .card .entries) ≡ maxStates
   pub foretold : verdictNumber (r .verdict) ≡ 0 → (d : Decoded) → Accepted s d → Foretells d (r .card)
-  -- which no other card with 256 entries does
+  -- which no other card with 512 entries does
   pub only : (d : Decoded) → Accepted s d → (card : Card) → length (card .entries) ≡ maxStates → Foretells d card
       → card ≡ forecastCard d
   pub refused : (verdictNumber (r .verdict) ≡ 0 → ⊥) → Unforetold (r .card)

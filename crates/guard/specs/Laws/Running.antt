@@ -10,7 +10,9 @@ use lib.ListN.{length}
 use borrow.Author.Tests.{eqb-true, eqb-false, le-leb}
 use Rattle.records.specs.Laws.Tests.{by-test, or-left, or-right}
 use Rattle.records.specs.Meaning.Limits.{maxStates, maxSteps, linesOk, horizonOk}
-use Rattle.guard_table.specs.Laws.GuardTable.{HeadReads, table-head}
+use Rattle.guard_table.specs.Meaning.RowKind.{statesMost, kindFor}
+use Rattle.guard_table.specs.declared.kind.RowKind.{RowKind}
+use Rattle.guard_table.specs.Laws.GuardTable.{kind-names, HeadReads, table-head}
 use Rattle.sheet.specs.Meaning.Decoded as decoded
 use Rattle.sheet.specs.Meaning.Decoded.{Decoded, HeadOk, inputLines}
 use Rattle.product.specs.Meaning.Step.{inputsOf}
@@ -117,17 +119,24 @@ module _
     (d : Decoded) (fits : stateCount d ≤ maxStates) (start : isIn (droppedOf d) 0 ≡ true) (ok : HeadOk d)
     (h : ℕ) (far : horizonOk (inputLines d) h ≡ true)
   where
+    -- the kind of its rows, which can name its states
+    abbrev kind : RowKind
+    kind = kindFor (guardCount d h)
+
+    named : guardCount d h ≤ statesMost kind
+    named = kind-names (guardCount d h) (omega (arith, guard-fits d fits h start))
+
     -- it is a table to load
     pub table-loads : loadable (guardOver d h) ≡ true
     unfolding guardOver
     table-loads =
-        guard-loadable (d .mode) (inputLines d) (d .outputs) h (guardCount d h) (outputOf d h) (nextOf d h) (running-lines d ok) far
-        (guard-some d fits h) (omega (arith, guard-fits d fits h start)) (output-low d fits h start) (next-low d fits h start)
+        guard-loadable kind (d .mode) (inputLines d) (d .outputs) h (guardCount d h) (outputOf d h) (nextOf d h) (running-lines d ok) far
+        (guard-some d fits h) named (output-low d fits h start) (next-low d fits h start)
 
     -- with the sheet's head
-    table-reads : HeadReads (guardOver d h) (d .mode) (inputLines d) (d .outputs) h (guardCount d h)
+    table-reads : HeadReads (guardOver d h) kind (d .mode) (inputLines d) (d .outputs) h (guardCount d h)
     unfolding guardOver
-    table-reads = table-head (d .mode) (inputLines d) (d .outputs) h (guardCount d h) (outputOf d h) (nextOf d h)
+    table-reads = table-head kind (d .mode) (inputLines d) (d .outputs) h (guardCount d h) (outputOf d h) (nextOf d h)
 
     -- a board that stands in a run shows the sheet and the run
     pub stands-shows : (b : Board) (k : ℕ) (run : List history.Step)
@@ -200,8 +209,8 @@ module _
       unfolding guardOver
       goes-by i room l =
           subst (λ (p : ℕ). stepOn b (guardOver d h) i ≡ boardMoved b i (outputOf d h p i) (nextOf d h p i)) (s .place)
-          (guard-step (d .mode) (inputLines d) (d .outputs) h (guardCount d h) (outputOf d h) (nextOf d h) (running-lines d ok) far
-          (guard-some d fits h) (omega (arith, guard-fits d fits h start)) (output-low d fits h start) (next-low d fits h start)
+          (guard-step kind (d .mode) (inputLines d) (d .outputs) h (guardCount d h) (outputOf d h) (nextOf d h) (running-lines d ok) far
+          (guard-some d fits h) named (output-low d fits h start) (next-low d fits h start)
           b (s .live) (s .shows) (omega (arith, s .steps)) i l)
 
       steps : (i : ℕ) → k < guardCount d h → n < maxSteps → i < inputsOf d

@@ -8,7 +8,8 @@ use Rattle.records.specs.Meaning.Lists.{tab, cat}
 use Rattle.records.specs.Model.Lists.{put}
 use Rattle.records.specs.Meaning.Numbers.{u16At}
 use Rattle.records.specs.Meaning.Records.{readAt}
-use Rattle.guard_table.specs.Meaning.GuardTable.{rowLength, tableLength, rowAt, entryAt, headerIs, outputIn, nextIn, guardRow, guardTable}
+use Rattle.guard_table.specs.Meaning.RowKind.{kindFor}
+use Rattle.guard_table.specs.Meaning.GuardTable.{rowLength, lengthIn, rowAt, entryAt, headerIs, showsKind, kindOf, outputIn, nextIn, guardRow, tableIn}
 use Rattle.game.specs.Model.Numbering.{explore, visit, met, meet, add, find}
 use Rattle.game.specs.Model.Choice.{before, against, leader, choose}
 use Rattle.sheet.specs.Meaning.Decoded.{guardLines, lettersRead, encode, encodeHead, encodeMonitor}
@@ -45,7 +46,7 @@ use Rattle.guard_table.specs.Meaning.Loadable as table
 use Rattle.guard_table.specs.Meaning.Loadable.{sizeOk, fieldsOk, entryOk, entriesOk, rowOk, rowsOk, loadable}
 use Rattle.board.specs.Meaning.Load.{boardOf, loadOn}
 use Rattle.board.specs.Meaning.BoardStep as board
-use Rattle.board.specs.Meaning.BoardStep.{entryFits, lookedUp, stepOn}
+use Rattle.board.specs.Meaning.BoardStep.{lengthFits, entryFits, lookedUp, stepOn}
 use Rattle.notebook.specs.Model.Row.{isAbove, isOrdered, test, tests}
 use Rattle.game.specs.Model.Rounds.{keeps, keptAfter, may}
 use Rattle.game.specs.Model.Value.{value}
@@ -88,7 +89,7 @@ unfoldable pub guards : Unit {0}
 unfolding supervisors scoresOf line equalLines softReward gainsOf matchReward bonusesOf sheetGame before against leader choose
     literalHolds rankBy rank
     mayGive values.cellNext earns scoreOf worth valueRow valuesOf choiceOf choices choicesOf chosen follows guardStates guardNumber
-    guardOf guardCount outputOf guard.nextOf guardRow guardTable guardOver guardTableBy
+    guardOf guardCount outputOf guard.nextOf kindFor guardRow tableIn guardOver guardTableBy
 guards = tt
 
 -- sums, averages and the forecast card
@@ -110,8 +111,8 @@ runs = tt
 
 -- load and step
 unfoldable pub boards : Unit {0}
-unfolding lists rowLength tableLength rowAt entryAt headerIs outputIn nextIn countsOk live emptyBoard runAt sizeOk fieldsOk
+unfolding lists rowLength lengthIn rowAt entryAt headerIs showsKind kindOf outputIn nextIn countsOk live emptyBoard runAt sizeOk fieldsOk
     table.tableHeadOk entryOk entriesOk rowOk rowsOk
-    loadable boardOf loadOn proposal differs deviates entryFits board.boardMoved lookedUp stepOn outputsFrom boardFrom outputs
+    loadable boardOf loadOn proposal differs deviates lengthFits entryFits board.boardMoved lookedUp stepOn outputsFrom boardFrom outputs
     deviationsShown
 boards = tt

@@ -14,11 +14,12 @@ use Rattle.records.specs.Laws.Tests.{and-left, and-right}
 use Rattle.records.specs.Meaning.Lists.{cat}
 use Rattle.records.specs.Laws.Lists.{cat-ext}
 use Rattle.records.specs.Laws.Limits.{lines-facts, horizon-facts}
+use Rattle.guard_table.specs.Meaning.RowKind.{kindFor}
 use Rattle.guard_table.specs.Meaning.GuardTable.{headLength, headMode, headInputs, headOutputs, headHorizon, headCount, outputIn, nextIn, guardTable}
 use Rattle.guard_table.specs.Laws.GuardTable.{table-head, entry-output, entry-next}
 use Rattle.guard_table.specs.Meaning.Loadable.{loadable, entryOk}
-use Rattle.guard_table.specs.Laws.LoadableFacts.{loadable-head, loadable-sized, loadable-entry}
-use Rattle.guard_table.specs.Model.Inside.{Sized}
+use Rattle.guard_table.specs.Laws.LoadableFacts.{loadable-head, loadable-closed, loadable-entry}
+use Rattle.guard_table.specs.Model.Inside.{Closed}
 use Rattle.listing_text.specs.Meaning.Listing.{decimal, lineEnd, headLine, rowText, listing, refusedText, entryOf, rowOf, listingOf}
 use Rattle.listing_text.specs.Model.Put.{Put}
 use Rattle.listing_text.specs.Laws.Digits.{one-digit, two-most, three-most}
@@ -149,9 +150,9 @@ listing-most t e =
           (omega (arith, lines .outputs-most)) (omega (arith, far .most)),
     )
 
--- a loadable table has a head, and is as long as it says
-pub loadable-filled : (t : List ℕ) → loadable t ≡ true → (headLength ≤ length t) × Sized t (headInputs t) (headCount t)
-loadable-filled t e = (loadable-head t e .long, loadable-sized t e)
+-- a loadable table has a head, is as long as it says, and its next states are its own
+pub loadable-filled : (t : List ℕ) → loadable t ≡ true → (headLength ≤ length t) × Closed t (headInputs t) (headCount t)
+loadable-filled t e = (loadable-head t e .long, loadable-closed t e)
 
 -- the numbers of refusals are small
 ground-most : (g : Refusal) → groundNumber g ≤ 10
@@ -182,12 +183,12 @@ module _ (mode inputs outputs horizon count : ℕ) (out next : ℕ → ℕ → �
   unfolding listingOf listing rowText
   listing-made =
       let t = guardTable mode inputs outputs horizon count out next in
-      let head = table-head mode inputs outputs horizon count out next in
+      let head = table-head (kindFor count) mode inputs outputs horizon count out next in
       rw (head .count-is, head .inputs-is, head .outputs-is, head .horizon-is)
       (ap (λ (l : List ℕ). headLine count inputs outputs horizon ++ l)
       (cat-ext count _ _ (λ k h. ap (λ (l : List ℕ). decimal k ++ (58 ∷ (l ++ lineEnd)))
       (cat-ext (2 ^ inputs) _ _ (λ i l. rw (
-        entry-output mode inputs outputs horizon count out next k h i l,
-        entry-next mode inputs outputs horizon count out next k h i
+        entry-output (kindFor count) mode inputs outputs horizon count out next k h i l,
+        entry-next (kindFor count) mode inputs outputs horizon count out next k h i
             l,
       ))))))

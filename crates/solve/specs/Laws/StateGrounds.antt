@@ -26,7 +26,7 @@ getD-inside [] j a b h = absurd (not-suc-le-zero h)
 getD-inside (x ∷ l) zero a b h = refl
 getD-inside (x ∷ l) (suc j) a b h = getD-inside l j a b (le-of-suc-le-suc h)
 
--- 257 distinct tuples are reachable exactly if the list of product states is longer than 256
+-- 513 distinct tuples are reachable exactly if the list of product states is longer than 512
 pub too-many-iff : (d : Decoded) → TooMany d ↔ (maxStates < stateCount d)
 too-many-iff d =
     let x = too-many d in (

@@ -29,7 +29,7 @@ Kept d t = (n : ℕ) → Survives d n t
 abbrev pub Lost : Decoded → List ℕ → Type 0
 Lost d t = (n : ℕ) × (¬ Survives d n t)
 
--- ground 7: there are more than 256 product states
+-- ground 7: there are more than 512 product states
 pub record TooMany (d : Decoded) : Type 0 where
   pub tuples : List (List ℕ)
   pub many : length tuples ≡ suc maxStates

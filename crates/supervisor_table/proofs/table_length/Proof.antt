@@ -1,4 +1,4 @@
--- `supervisor_table::table_length`: at most 256 rows of at most 21 bytes. Assumes nothing.
+-- `supervisor_table::table_length`: at most 512 rows of at most 21 bytes. Assumes nothing.
 use Rattle.supervisor_table.specs.Model.MaskRows.{maskTableLength}
 use native.Mathlib.Nat.{mul-le-mul}
 use native.Mathlib.Omega.{arith}

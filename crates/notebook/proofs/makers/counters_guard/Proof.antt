@@ -6,6 +6,7 @@ use native.Mathlib.Omega.{arith}
 use lib.ListN.{length}
 use Rattle.plan.specs.Model.GuardOfSheet.{guardTableOf, statesOf}
 use Rattle.notebook.specs.Model.Counters.{sheetBytes, Answered}
+use Rattle.notebook.specs.Model.Figures.{room}
 use Rattle.notebook.proofs.Answers.{zeros-length, Written, written}
 use Rattle.notebook.proofs.makers.counters_guard.Statement.{statement}
 use Rattle.notebook.proofs.makers.counters_guard.Tie as tie
@@ -38,7 +39,7 @@ guard-of-requires c κs = tt
 
 returns : tie.Need-returns
 returns c =
-    subst (λ (s : List ℕ). Answered guardTableOf statesOf s 2048 (c .guard-of .result)) (bytes (put c) .part) (c .guard-of .ensures)
+    subst (λ (s : List ℕ). Answered guardTableOf statesOf s room (c .guard-of .result)) (bytes (put c) .part) (c .guard-of .ensures)
 
 pub counters-guard-spec : {M : Type 1} → statement M
 counters-guard-spec =

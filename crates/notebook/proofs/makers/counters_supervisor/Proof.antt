@@ -7,6 +7,7 @@ use lib.ListN.{length}
 use Rattle.product.specs.Model.ProductNumbering.{stateCount}
 use Rattle.supervisor.specs.Model.SupervisorOfSheet.{supervisorTable}
 use Rattle.notebook.specs.Model.Counters.{sheetBytes, Answered}
+use Rattle.notebook.specs.Model.Figures.{room}
 use Rattle.notebook.proofs.Answers.{zeros-length, Written, written}
 use Rattle.notebook.proofs.makers.counters_supervisor.Statement.{statement}
 use Rattle.notebook.proofs.makers.counters_supervisor.Tie as tie
@@ -39,7 +40,7 @@ supervisor-of-requires c κs = tt
 
 returns : tie.Need-returns
 returns c =
-    subst (λ (s : List ℕ). Answered supervisorTable stateCount s 2048 (c .supervisor-of .result)) (bytes (put c) .part)
+    subst (λ (s : List ℕ). Answered supervisorTable stateCount s room (c .supervisor-of .result)) (bytes (put c) .part)
     (c .supervisor-of .ensures)
 
 pub counters-supervisor-spec : {M : Type 1} → statement M
