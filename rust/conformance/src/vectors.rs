@@ -10,7 +10,7 @@ use reference::Board;
 use crate::Subject;
 
 /// The present level: the base is 0, level k knows the change requests N1 to Nk.
-pub const LEVEL: u32 = 5;
+pub const LEVEL: u32 = 6;
 
 /// Every kind of line that the present level has, by its letter. The next level raises [`LEVEL`],
 /// adds its kinds here, and to [`Subject`] the calls that they compare.

@@ -1,8 +1,8 @@
 //! The guard board: load, step, rewind, unload.
 
 use crate::sheet::{horizon_fits, lines_fit, split_record, Mode};
-use crate::tables::{guard_len, GUARD_HEAD, GUARD_ROW, RECORD_HEADER};
-use crate::{Refusal, STATES_MOST};
+use crate::tables::{GUARD_HEAD, RECORD_HEADER};
+use crate::{Refusal, RowKind, STATES_MOST};
 
 /// The most steps of a run.
 pub const STEPS_MOST: u32 = 1_000_000;
@@ -15,6 +15,8 @@ pub struct TableHead {
     pub outputs: u8,
     pub horizon: u8,
     pub count: u16,
+    /// The kind of its rows.
+    pub rows: RowKind,
 }
 
 /// The head of a guard table that can be loaded; nothing if the slice is no such table.
@@ -22,19 +24,26 @@ pub fn loadable(table: &[u8]) -> Option<TableHead> {
     let (kind, body, rows) = split_record(table)?;
     let &[mode, inputs, outputs, horizon, low, high] = body else { return None };
     let count = u16::from_le_bytes([low, high]);
+    let row_kind = RowKind::of_table(table)?;
     if kind != GUARD_HEAD
         || !shape_fits(mode, inputs, outputs, count)
         || !horizon_fits(inputs, horizon)
-        || table.len() != guard_len(usize::from(count), inputs)
+        || usize::from(count) > row_kind.states_most()
+        || table.len() != row_kind.table_len(usize::from(count), inputs)
     {
         return None;
     }
-    let row_body = 2usize << inputs;
-    let header = [row_body as u8, 0, GUARD_ROW as u8, 0];
-    let fits = |entry: &[u8]| entry[0] >> outputs == 0 && u16::from(entry[1]) < count;
-    rows.chunks_exact(RECORD_HEADER + row_body)
-        .all(|row| row[..RECORD_HEADER] == header && row[RECORD_HEADER..].chunks_exact(2).all(fits))
-        .then_some(TableHead { mode, inputs, outputs, horizon, count })
+    let body_len = row_kind.body_len(inputs);
+    let expected = [body_len as u8, 0, row_kind.number() as u8, 0];
+    let fits = |entry: &[u8]| {
+        let (output, next) = row_kind.read(entry);
+        output >> outputs == 0 && next < count
+    };
+    let sound = rows.chunks_exact(RECORD_HEADER + body_len).all(|row| {
+        let (header, body) = row.split_at(RECORD_HEADER);
+        header == expected && body.chunks_exact(row_kind.entry_len()).all(fits)
+    });
+    sound.then_some(TableHead { mode, inputs, outputs, horizon, count, rows: row_kind })
 }
 
 /// The bounds on mode, lines and count that tables and boards share.
@@ -96,21 +105,26 @@ impl Board {
         if u32::from(input) >= 1 << self.inputs {
             return Err(Refusal::BadInput);
         }
-        if table.len() != guard_len(usize::from(self.count), self.inputs) {
-            return Err(Refusal::BadTable);
-        }
-        let row = guard_len(usize::from(self.place), self.inputs) + RECORD_HEADER;
-        let at = row + 2 * usize::from(input);
-        let (output, next) = (table[at], u16::from(table[at + 1]));
-        if output >> self.outputs != 0 || next >= self.count {
-            return Err(Refusal::BadTable);
-        }
+        let (output, next) = self.entry(table, input).ok_or(Refusal::BadTable)?;
         self.place = next;
         self.steps += 1;
         if self.mode == 1 && output != input >> (self.inputs - self.outputs) {
             self.deviations += 1;
         }
         Ok(output)
+    }
+
+    /// The table's entry for the place and an input; nothing where the table's length is not the
+    /// board's by the kind of the first row, or the entry is out of range. No other row is looked at,
+    /// and rows of kind 17 are read whatever the count is.
+    fn entry(&self, table: &[u8], input: u8) -> Option<(u8, u16)> {
+        let kind = RowKind::of_table(table)?;
+        if table.len() != kind.table_len(usize::from(self.count), self.inputs) {
+            return None;
+        }
+        let row = kind.table_len(usize::from(self.place), self.inputs) + RECORD_HEADER;
+        let (output, next) = kind.read(&table[row + kind.entry_len() * usize::from(input)..]);
+        (output >> self.outputs == 0 && next < self.count).then_some((output, next))
     }
 
     /// Begins the run again.

@@ -33,6 +33,7 @@ mod listing;
 mod product;
 mod reading;
 mod refusal;
+mod rows;
 mod sheet;
 mod solved;
 mod tables;
@@ -45,6 +46,7 @@ pub use forecast::{forecast, Averages, Prospect};
 pub use listing::{list, list_table, SHEET_BYTES_MOST};
 pub use product::{Edge, Kept, Product, STATES_MOST};
 pub use refusal::Refusal;
+pub use rows::RowKind;
 pub use sheet::{Literal, Mode, Monitor, Role, Sheet, Tuple, HORIZON_MOST, MONITORS_MOST, PLACES};
 pub use tables::{
     guard_table, make_guard, make_supervisor, supervisor_table, Made, GUARD_BYTES_MOST,

@@ -26,12 +26,13 @@ pub fn list_table(table: &[u8]) -> Option<String> {
         "states {} inputs {} outputs {} horizon {}\n",
         head.count, head.inputs, head.outputs, head.horizon
     );
-    let row_bytes = RECORD_HEADER + (2 << head.inputs);
+    let row_bytes = RECORD_HEADER + head.rows.body_len(head.inputs);
     let rows = &table[table.len() - usize::from(head.count) * row_bytes..];
     for (state, row) in rows.chunks_exact(row_bytes).enumerate() {
         write!(text, "{state}:").expect("a string takes any text");
-        for entry in row[RECORD_HEADER..].chunks_exact(2) {
-            write!(text, " {}>{}", entry[0], entry[1]).expect("a string takes any text");
+        for entry in row[RECORD_HEADER..].chunks_exact(head.rows.entry_len()) {
+            let (output, next) = head.rows.read(entry);
+            write!(text, " {output}>{next}").expect("a string takes any text");
         }
         text.push('\n');
     }

@@ -15,7 +15,7 @@ pub enum Refusal {
     SeventhMonitor = 5,
     /// H above 24, or inputs times H above 24.
     LongHorizon = 6,
-    /// More than 256 product states.
+    /// More than 512 product states.
     TooManyStates = 7,
     /// The start is not kept.
     Unrealizable = 8,

@@ -278,7 +278,7 @@ fn what_is_realizable_is_not_forced() {
     assert_eq!(forced_bytes(&losing), Err(Refusal::Realizable));
     // 7 comes before it, and it before 9.
     assert_eq!(make_forced(&losing, &mut []), Err(Refusal::Realizable));
-    let counters = [counter(32, 0, 2, 0), counter(9, 0, 2, 1)].concat();
+    let counters = [counter(32, 0, 2, 0), counter(17, 0, 2, 1)].concat();
     let many = [head(0, 0, 0, 0, &[0, 1]), counters].concat();
     assert_eq!(forced(&many), Err(Refusal::TooManyStates));
     assert_eq!(forced(&[]), Err(Refusal::Misplaced));
@@ -301,10 +301,16 @@ fn counters_moved_by_different_lines() {
         let first = counter(32, 0, 2, 0);
         [head(0, 0, 0, 0, &[0, 1]), first, counter(second, 0, 2, 1)].concat()
     };
-    assert_eq!(masks(&supervisor_table(&sheet(8)).unwrap()).len(), 256);
-    assert!(guard_table(&sheet(8)).is_ok());
-    assert_eq!(supervisor_table(&sheet(9)), Err(Refusal::TooManyStates));
-    assert_eq!(guard_table(&sheet(9)), Err(Refusal::TooManyStates));
+    // Both lines are preferred on, so that the guard moves both counters: where they begin together again
+    // it has them all.
+    for (second, product, guard, kind) in [(8, 256, 32, 17), (9, 288, 288, 20), (16, 512, 32, 17)] {
+        assert_eq!(masks(&supervisor_table(&sheet(second)).unwrap()).len(), product);
+        let table = guard_table(&sheet(second)).unwrap();
+        assert_eq!([table[8], table[9]], u16::to_le_bytes(guard));
+        assert_eq!(table[12..14], [kind, 0]);
+    }
+    assert_eq!(supervisor_table(&sheet(17)), Err(Refusal::TooManyStates));
+    assert_eq!(guard_table(&sheet(17)), Err(Refusal::TooManyStates));
 }
 
 #[test]

@@ -14,6 +14,7 @@ mod steps;
 
 use reference::{Made, Prospect, Refusal, Sheet};
 
+use crate::plan::Entry;
 use crate::product::{Product, CELLS};
 use crate::steps::Stepper;
 
@@ -62,16 +63,37 @@ pub fn make_supervisor(sheet: &[u8], result: &mut [u8]) -> Result<Made, Refusal>
     Ok(made)
 }
 
+/// The most states of a guard whose rows have a byte for the next state.
+const NARROW_STATES_MOST: usize = 256;
+
 /// Makes the guard table of a sheet at the start of the result memory, as the reference does.
 pub fn make_guard(sheet: &[u8], result: &mut [u8]) -> Result<Made, Refusal> {
     let (sheet, product, kept) = solve(sheet)?;
     let entries = plan::plan(&sheet, &product, &kept);
+    let narrow = |(output, next): Entry| [output, next as u8];
+    let wide = |(output, next): Entry| [output, next as u8, (next >> 8) as u8];
+    match entries.len() / sheet.input_count() <= NARROW_STATES_MOST {
+        true => write_guard(&sheet, &entries, 17, narrow, result),
+        false => write_guard(&sheet, &entries, 20, wide, result),
+    }
+}
+
+/// Writes the guard table with rows of a kind, an entry of which has so many bytes.
+fn write_guard<const BYTES: usize>(
+    sheet: &Sheet,
+    entries: &[Entry],
+    kind: u8,
+    bytes_of: impl Fn(Entry) -> [u8; BYTES],
+    result: &mut [u8],
+) -> Result<Made, Refusal> {
     let ins = sheet.input_count();
     let head = [6, 0, 16, 0, sheet.mode as u8, sheet.inputs, sheet.outputs, sheet.horizon];
-    let (made, rows) = open(result, &head, 4 + 2 * ins, entries.len() / ins)?;
+    let (made, rows) = open(result, &head, 4 + BYTES * ins, entries.len() / ins)?;
     for (row, entries) in rows.zip(entries.chunks_exact(ins)) {
-        row[..4].copy_from_slice(&[2 * ins as u8, 0, 17, 0]);
-        row[4..].copy_from_slice(entries.as_flattened());
+        row[..4].copy_from_slice(&[(BYTES * ins) as u8, 0, kind, 0]);
+        for (bytes, &entry) in row[4..].chunks_exact_mut(BYTES).zip(entries) {
+            bytes.copy_from_slice(&bytes_of(entry));
+        }
     }
     Ok(made)
 }
