@@ -35,7 +35,7 @@ extern "C" {
 #define HZ_BAD_MONITOR 4      /* sheet: a monitor's length or a field of it is wrong */
 #define HZ_SEVENTH_MONITOR 5  /* sheet: a seventh monitor */
 #define HZ_LONG_HORIZON 6     /* sheet: the horizon, or inputs times the horizon, above 24 */
-#define HZ_TOO_MANY_STATES 7  /* sheet: more than 256 product states */
+#define HZ_TOO_MANY_STATES 7  /* sheet: more than 512 product states */
 #define HZ_UNREALIZABLE 8     /* sheet: what must hold cannot be kept from the start on */
 #define HZ_SHORT_RESULT 9     /* the result (or text) memory is shorter than the table or play (or text) */
 #define HZ_SHORT_WORK 10      /* a slice of work memory is shorter than its HZ_WORK_ length */
@@ -48,38 +48,38 @@ extern "C" {
 
 /* Lengths that are always enough, in bytes. */
 
-#define HZ_SUPERVISOR_BYTES_MOST 5385 /* a supervisor table */
-#define HZ_GUARD_BYTES_MOST 9226      /* a guard table */
-#define HZ_FORCED_BYTES_MOST 2816     /* a play */
-#define HZ_LISTING_BYTES_MOST 25897   /* a listing */
+#define HZ_SUPERVISOR_BYTES_MOST 10761 /* a supervisor table */
+#define HZ_GUARD_BYTES_MOST 26634      /* a guard table */
+#define HZ_FORCED_BYTES_MOST 5632      /* a play */
+#define HZ_LISTING_BYTES_MOST 51753    /* a listing */
 
 /* Work memory: the least lengths, in elements. The first three are lent to every maker, and are all that the supervisor's
- * and the play's need; the next two are the guard's and the forecast's, and then each has four of its own: 37,906, 43,666
- * and 46,738 bytes. It may hold anything before a call; after it, refused or not, all that was lent is zero. */
+ * and the play's need; the next two are the guard's and the forecast's, and then each has four of its own: 74,770, 86,162
+ * and 92,306 bytes. It may hold anything before a call; after it, refused or not, all that was lent is zero. */
 
-#define HZ_WORK_TUPLES 256   /* uint64_t */
-#define HZ_WORK_CELLS 16384  /* uint16_t */
-#define HZ_WORK_DROPPED 1545 /* uint16_t */
-#define HZ_WORK_GAINS 256    /* uint16_t; guard and forecast */
+#define HZ_WORK_TUPLES 512   /* uint64_t */
+#define HZ_WORK_CELLS 32768  /* uint16_t */
+#define HZ_WORK_DROPPED 2569 /* uint16_t */
+#define HZ_WORK_GAINS 512    /* uint16_t; guard and forecast */
 #define HZ_WORK_BONUSES 64   /* uint16_t; guard and forecast */
-#define HZ_WORK_VALUES 256   /* uint64_t; guard */
-#define HZ_WORK_ARRIVALS 256 /* uint64_t; guard */
-#define HZ_WORK_ORDER 256    /* uint16_t; guard */
-#define HZ_WORK_NUMBERS 256  /* uint16_t; guard */
-#define HZ_WORK_BESTS 256    /* uint64_t; forecast */
-#define HZ_WORK_LEASTS 256   /* uint64_t; forecast */
-#define HZ_WORK_HIGHS 256    /* uint64_t; forecast */
-#define HZ_WORK_LOWS 256     /* uint64_t; forecast */
+#define HZ_WORK_VALUES 512   /* uint64_t; guard */
+#define HZ_WORK_ARRIVALS 512 /* uint64_t; guard */
+#define HZ_WORK_ORDER 512    /* uint16_t; guard */
+#define HZ_WORK_NUMBERS 512  /* uint16_t; guard */
+#define HZ_WORK_BESTS 512    /* uint64_t; forecast */
+#define HZ_WORK_LEASTS 512   /* uint64_t; forecast */
+#define HZ_WORK_HIGHS 512    /* uint64_t; forecast */
+#define HZ_WORK_LOWS 512     /* uint64_t; forecast */
 
 /* The figures that the makers report, in elements; hz_list reports one. */
 
 #define HZ_FIGURES 2
 
-/* A forecast card, in elements: the number of product states, then two words for each of the 256 that there may be. They are
+/* A forecast card, in elements: the number of product states, then two words for each of the 512 that there may be. They are
  * the bits of two doubles (IEEE 754), the state's best and its least average reward over the horizon's steps; both are
  * HZ_LOST, which no average is, where the state is lost or there is none of that number. */
 
-#define HZ_CARD_WORDS 513
+#define HZ_CARD_WORDS 1025
 #define HZ_LOST UINT64_MAX
 
 /* The byte of a play that names no monitor. */
@@ -113,8 +113,8 @@ uint32_t hz_make_supervisor(const uint8_t *sheet, size_t sheet_len,
                             uint16_t *dropped, size_t dropped_len,
                             uint64_t *figures, size_t figures_len);
 
-/* Makes the guard table, which a board runs by. All is as of hz_make_supervisor: figures_len MUST be at least
- * HZ_FIGURES. */
+/* Makes the guard table, which a board runs by: of up to 256 states with rows of kind 17, which have a byte for the next state,
+ * of more with rows of kind 20, which have two. All is as of hz_make_supervisor: figures_len MUST be at least HZ_FIGURES. */
 uint32_t hz_make_guard(const uint8_t *sheet, size_t sheet_len,
                        uint8_t *result, size_t result_len,
                        uint64_t *tuples, size_t tuples_len,
@@ -172,8 +172,8 @@ uint32_t hz_forced(const uint8_t *sheet, size_t sheet_len,
 /* The calls on a board: board_len MUST be exactly HZ_BOARD_BYTES. A refused call changes no byte of the board. A table's length is
  * exactly what the maker said: of a longer slice the call is refused. */
 
-/* Loads a guard table and begins a run. Refused: HZ_OCCUPIED, HZ_BAD_TABLE. The board holds no pointer to the table:
- * every step is lent it. */
+/* Loads a guard table and begins a run. Its rows are all of one kind: 17 with at most 256 states, or 20 with any number.
+ * Refused: HZ_OCCUPIED, HZ_BAD_TABLE. The board holds no pointer to the table: every step is lent it. */
 uint32_t hz_load(uint8_t *board, size_t board_len, const uint8_t *table, size_t table_len);
 
 /* Answers an input by an output and moves on, by the table that was loaded. The answer has the number in its low 16

@@ -28,7 +28,7 @@ ground() {
     4) echo "a monitor's length or a field of it is wrong" ;;
     5) echo "a seventh monitor" ;;
     6) echo "the horizon is too long" ;;
-    7) echo "more than 256 product states" ;;
+    7) echo "more than 512 product states" ;;
     8) echo "unrealizable: the start is not kept" ;;
     9) echo "the result memory is shorter than the table or play" ;;
     10) echo "the work memory is too short" ;;

@@ -1,9 +1,12 @@
 //! Sheets, tables and boards for the property tests: sound ones of every shape, and damaged ones.
 
+mod tables;
+
 pub use guard::sheet::record;
 use guard::sheet::{Literal, Mode, Monitor, Role, Sheet};
-use reference::{Board, Refusal, STATES_MOST, STEPS_MOST};
+use reference::Refusal;
 
+pub use self::tables::{any_board, any_input, any_lent, any_table, table, table_of};
 use crate::Random;
 
 /// The mode and lines of a sheet's head.
@@ -190,8 +193,10 @@ pub fn game(random: &mut Random, shape: Shape, most: usize) -> Vec<u8> {
 
 /// A sheet that none of 1 to 6 applies to; 7 and 8 may.
 pub fn sheet(random: &mut Random) -> Vec<u8> {
-    if random.once_in(10) {
-        return trusting_shield(random);
+    match random.below(20) {
+        0 | 1 => return trusting_shield(random),
+        2 => return large_sheet(random),
+        _ => {}
     }
     let shapes = Shape::all();
     let mode = random.pick(&[Mode::Controller, Mode::Shield]);
@@ -202,8 +207,8 @@ pub fn sheet(random: &mut Random) -> Vec<u8> {
         }
     };
     let mut bytes = head(random, shape);
-    // How many product states there may be at most: above 256 some sheets are refused 7.
-    let mut room: usize = random.pick(&[1, 8, 60, 200, 256, 256, 256, 600, 5000]);
+    // How many product states there may be at most: above 512 some sheets are refused 7.
+    let mut room: usize = random.pick(&[1, 8, 60, 200, 256, 256, 512, 1000, 5000]);
     let monitors = random.pick(&[0, 1, 2, 2, 3, 3, 4, 5, 6]);
     for _ in 0..monitors {
         let role = match shape.mode {
@@ -268,6 +273,60 @@ fn counted_leaves(most: u8, from_all: bool) -> Vec<u8> {
     Monitor { role: Role::Limit, weight: 0, start: 0, accepts, next: rows.collect() }.record()
 }
 
+/// The states of two counters, by their product: about 256, where rows of kind 17 end, and about 512,
+/// where 7 begins.
+const LARGE: [(u8, u8); 14] = [
+    (17, 15), // 255
+    (16, 16), // 256
+    (32, 8),
+    (20, 13), // 260
+    (32, 9),  // 288
+    (30, 10), // 300
+    (20, 20), // 400
+    (31, 16), // 496
+    (30, 17), // 510
+    (32, 16), // 512
+    (16, 32),
+    (27, 19), // 513
+    (32, 17), // 544
+    (24, 25), // 600
+];
+
+/// A sheet of two counters that together have many states, and at times a game, which makes them more.
+/// A line in leads the guard to all states of the counter that it moves, an output line to the states
+/// of the outputs chosen: so guards have up to as many states as the product, or few.
+pub fn large_sheet(random: &mut Random) -> Vec<u8> {
+    let shape = random.pick(&Shape::all());
+    let mut bytes = head(random, shape);
+    let sizes = random.pick(&LARGE);
+    let lines = shape.lines_in + shape.outputs;
+    let first = random.byte_below(lines);
+    // Another line, or where there is but one that line off.
+    let second = (first + 1 + random.byte_below(lines.max(2) - 1)) % lines;
+    bytes.extend(counter(random, shape, sizes.0, (first, true)));
+    bytes.extend(counter(random, shape, sizes.1, (second, second != first)));
+    if random.once_in(4) {
+        bytes.extend(game(random, shape, 2));
+    }
+    bytes
+}
+
+/// A monitor that never breaks, moved on round by a line that is on, or off.
+fn counter(random: &mut Random, shape: Shape, states: u8, (line, on): (u8, bool)) -> Vec<u8> {
+    let moves = |letter: usize| (letter >> line & 1 == 1) == on;
+    let letters = shape.letters(Role::Soft);
+    let next = (0..states).flat_map(|state| {
+        (0..letters).map(move |letter| (state + u8::from(moves(letter))) % states)
+    });
+    // A hard one of a shield would come twice, by its copy.
+    let soft = shape.mode == Mode::Shield || random.once_in(2);
+    let (role, weight) =
+        if soft { (Role::Soft, 1 + random.byte_below(3)) } else { (Role::Hard, 0) };
+    let accepts = (0..states).map(|_| role == Role::Hard || random.once_in(4)).collect();
+    Monitor { role, weight, start: random.byte_below(states), accepts, next: next.collect() }
+        .record()
+}
+
 /// A sheet that is refused 8.
 pub fn lost_sheet(random: &mut Random) -> Vec<u8> {
     loop {
@@ -278,20 +337,22 @@ pub fn lost_sheet(random: &mut Random) -> Vec<u8> {
     }
 }
 
-/// The longest play that a sheet can have, 256 product states and as many steps: each answer spends
+/// The longest play that a sheet can have, 512 product states and as many steps: each answer spends
 /// something. Output line 0 on spends one of the first monitor's 17 states and brings the second back
-/// to its state 1, off spends one of the second's 15; at its start the second has one more, since that
-/// does not accept. With lines in, input line 0 off brings the second back for nothing.
+/// to its state 2, off spends one of the second's 30 from there on; at its start the second has two
+/// more, and then has spent all when it comes to its start, which does not accept. With lines in,
+/// input line 0 off brings the second back for nothing.
 pub fn longest_play(lines_in: u8, outputs: u8) -> Vec<u8> {
     let spends = move |letter: u8| lines_in == 0 || letter & 1 == 1;
     let on = move |letter: u8| letter >> lines_in & 1 == 1;
     let first = |state: u8, letter| (state + u8::from(spends(letter) && on(letter))).min(17);
-    let second = |state: u8, letter| match spends(letter) && !on(letter) {
-        true => (state + 1) % 16,
-        false => 1,
+    let second = |state: u8, letter| match (spends(letter), on(letter)) {
+        (true, false) => (state + 1) % 32,
+        (true, true) => 2,
+        (false, _) => state.clamp(1, 2),
     };
     let sheet = Sheet::controller(lines_in, outputs).hard(18, |state| state < 17, first);
-    sheet.hard(16, |state| state > 0, second).to_bytes()
+    sheet.hard(32, |state| state > 0, second).to_bytes()
 }
 
 /// Where the records of a sheet begin, as far as they can be followed.
@@ -487,129 +548,4 @@ fn long_sheet(random: &mut Random) -> Vec<u8> {
         bytes.extend(record(random.pick(&[1, 2, 3, 16, 258]), &body));
     }
     bytes
-}
-
-/// A loadable guard table with any entries.
-pub fn table(random: &mut Random) -> Vec<u8> {
-    let shape = random.pick(&Shape::all());
-    let count = match random.below(6) {
-        0 => 1,
-        1 => STATES_MOST,
-        2 => STATES_MOST - 1,
-        _ => 1 + random.below(12),
-    };
-    let horizon = random.byte_below(shape.horizon_most() + 1);
-    table_of(random, [shape.mode as u8, shape.inputs(), shape.outputs, horizon], count)
-}
-
-/// A table with any entries by its head: mode, inputs, outputs, H, count, in bounds or not.
-fn table_of(random: &mut Random, fields: [u8; 4], count: usize) -> Vec<u8> {
-    let [mode, inputs, outputs, horizon] = fields;
-    let [low, high] = (count as u16).to_le_bytes();
-    let mut bytes = record(16, &[mode, inputs, outputs, horizon, low, high]);
-    for _ in 0..count {
-        let mut row = Vec::with_capacity(2 << inputs);
-        for _ in 0..1 << inputs {
-            row.push(random.byte_below(1 << outputs));
-            row.push(random.below(count) as u8);
-        }
-        bytes.extend(record(17, &row));
-    }
-    bytes
-}
-
-/// A table that is whole but for its head, about the bounds.
-fn table_about_bounds(random: &mut Random) -> Vec<u8> {
-    let fields = [
-        random.pick(&[0, 0, 1, 1, 2]),
-        random.byte_below(6),
-        random.byte_below(5),
-        random.pick(&[0, 0, 0, 6, 7, 8, 9, 12, 13, 24, 25]),
-    ];
-    let count = random.pick(&[0, 1, 2, 3, 3, 256, 257, 300]);
-    table_of(random, fields, count)
-}
-
-/// Any bytes for a table: a loadable one, or one of them damaged.
-pub fn any_table(random: &mut Random) -> Vec<u8> {
-    let mut bytes = table(random);
-    match random.below(6) {
-        0 | 1 => {}
-        5 => bytes = table_about_bounds(random),
-        2 => damage(random, &mut bytes),
-        3 => {
-            // The head about its bounds.
-            let at = random.below(10);
-            bytes[at] = random.pick(&[0, 1, 2, 3, 4, 5, 6, 7, 16, 17, 18, 24, 25, 255]);
-        }
-        _ => {
-            // One entry about its bounds.
-            let (outputs, count) = (bytes[6], u16::from_le_bytes([bytes[8], bytes[9]]));
-            let last = bytes.len() - 1;
-            let row = 4 + (2usize << bytes[5]);
-            let at = 10 + random.below((last - 9) / row) * row + random.below(row);
-            bytes[at] = random.pick(&[0, (1 << outputs) - 1, 1 << outputs, count as u8, 255]);
-        }
-    }
-    bytes
-}
-
-/// A board record: of a table's shape, with any field out of range at times, or of any bytes.
-pub fn any_board(random: &mut Random, table: &[u8]) -> Board {
-    if random.once_in(8) || table.len() < 10 {
-        return Board {
-            loaded: random.once_in(2),
-            mode: random.byte_below(3),
-            inputs: random.byte_below(6),
-            outputs: random.byte_below(5),
-            count: random.number() as u16 % 300,
-            place: random.number() as u16 % 300,
-            steps: random.number() as u32,
-            deviations: random.number() as u32,
-        };
-    }
-    let count = u16::from_le_bytes([table[8], table[9]]);
-    let steps = match random.below(4) {
-        0 => random.number() as u32 % 4,
-        1 => STEPS_MOST - random.number() as u32 % 3,
-        _ => random.number() as u32 % (STEPS_MOST + 1),
-    };
-    let mut board = Board {
-        loaded: true,
-        mode: table[4],
-        inputs: table[5],
-        outputs: table[6],
-        count,
-        place: random.number() as u16 % count.max(1),
-        steps,
-        deviations: if table[4] == 1 { random.number() as u32 % (steps + 1) } else { 0 },
-    };
-    if random.once_in(2) {
-        match random.below(9) {
-            0 => board.loaded = false,
-            1 => board.mode = random.pick(&[0, 1, 2, 255]),
-            2 => board.inputs = random.pick(&[0, 1, 2, 3, 4, 5, 255]),
-            3 => board.outputs = random.pick(&[0, 1, 2, 3, 4, 255]),
-            4 => board.count = random.pick(&[0, 1, count.wrapping_add(1), 256, 257, 65_535]),
-            5 => {
-                board.place =
-                    random.pick(&[count.wrapping_sub(1), count, count.wrapping_add(1), 65_535])
-            }
-            6 => board.steps = random.pick(&[0, STEPS_MOST, STEPS_MOST + 1, u32::MAX]),
-            7 => board.deviations = random.pick(&[0, 1, steps, steps + 1, u32::MAX]),
-            _ => {}
-        }
-    }
-    board
-}
-
-/// An input about a board's bounds.
-pub fn any_input(random: &mut Random, board: &Board) -> u8 {
-    let bound = 1u8 << board.inputs.min(7);
-    match random.below(8) {
-        0 => bound,
-        1 => bound.wrapping_sub(1),
-        2 => random.byte(),
-        _ => random.byte_below(bound),
-    }
 }

@@ -485,7 +485,7 @@ mod tests {
             format!("F {LEVEL} {A} 0 23 - -"),
             format!("C {LEVEL} - 2"),
             format!("C {LEVEL} - 2 0 lost"),
-            format!("C {LEVEL} {A} 0 257{}", " lost".repeat(257)),
+            format!("C {LEVEL} {A} 0 513{}", " lost".repeat(513)),
             format!("C {LEVEL} {A} 0 4 won{}", CARD_OF_A.rsplit_once(' ').unwrap().0),
         ];
         lines.extend(LEVEL.checked_sub(1).map(|earlier| format!("S {earlier} - 2 - -")));

@@ -37,8 +37,8 @@ fn single_calls_agree() {
         let mut random = Random::new(seed(), case);
         let table = generate::any_table(&mut random);
         let mut board = generate::any_board(&mut random, &table);
-        let table = match random.below(8) {
-            0 => generate::any_table(&mut random),
+        let table = match random.below(4) {
+            0 => generate::any_lent(&mut random, &table),
             _ => table,
         };
         let input = generate::any_input(&mut random, &board);

@@ -342,10 +342,10 @@ fn check_longest(subject: &mut dyn Subject) {
         let sheet = generate::longest_play(lines_in, outputs);
         let (number, play) = play(&sheet, subject);
         let play = entries(&play, 1 << outputs);
-        assert_eq!((number, play[0].steps, play[0].input), (0, 256, 0));
+        assert_eq!((number, play[0].steps, play[0].input), (0, 512, 0));
         let mut steps: Vec<u16> = play.iter().map(|entry| entry.steps).collect();
         steps.sort();
-        assert!(steps.into_iter().eq(1..=256));
+        assert!(steps.into_iter().eq(1..=512));
         assert!(play[1..].iter().all(|entry| entry.input == u8::from(lines_in > 0)));
     }
 }

@@ -182,7 +182,7 @@ pub fn forecast<const WORDS: usize>(sheet: &[u8], work: &mut Work, card: &mut [u
     // SAFETY: `sheet` is valid for reads of its length. `card` and the nine vectors that `work` lends
     // are each valid for reads and writes of their own length; each is borrowed by `&mut` or owned by
     // what is, so that no two of the eleven overlap. The one length asked for is that of the card, at
-    // least 513, and `WORDS` was held against `CARD_WORDS`, which is 513; shorter work memory is
+    // least 1025, and `WORDS` was held against `CARD_WORDS`, which is 1025; shorter work memory is
     // refused.
     unsafe {
         hz_forecast(

@@ -80,6 +80,7 @@ pub mod calls;
 mod forced;
 mod forecast;
 mod refusal;
+mod rows;
 pub mod sheet;
 mod tables;
 mod work;
@@ -88,6 +89,7 @@ pub use board::{Board, Fields};
 pub use forced::{Force, Forced};
 pub use forecast::{Averages, Forecast, Prospect};
 pub use refusal::Refusal;
+pub use rows::RowKind;
 pub use tables::{Guard, Made, Supervisor};
 pub use work::Work;
 

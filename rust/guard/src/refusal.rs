@@ -17,7 +17,7 @@ pub enum Refusal {
     SeventhMonitor,
     /// 6: H, or inputs times H, above 24.
     LongHorizon,
-    /// 7: more than 256 product states.
+    /// 7: more than 512 product states.
     TooManyStates,
     /// 8: the start is not kept.
     Unrealizable,
@@ -110,7 +110,7 @@ impl fmt::Display for Refusal {
             Refusal::BadMonitor => "a monitor's length or a field of it is wrong",
             Refusal::SeventhMonitor => "a seventh monitor",
             Refusal::LongHorizon => "the horizon is too long",
-            Refusal::TooManyStates => "more than 256 product states",
+            Refusal::TooManyStates => "more than 512 product states",
             Refusal::Unrealizable => "unrealizable: the start is not kept",
             Refusal::ShortResult => "the result memory is shorter than the table or play",
             Refusal::ShortWork => "the work memory is too short",

@@ -1,7 +1,7 @@
 use crate::calls::{self, FIGURES, LISTING_FIGURES};
 use crate::sheet::Mode;
 use crate::work::{INPUTS_MOST, STATES_MOST};
-use crate::{Board, Refusal, Work};
+use crate::{Board, Refusal, RowKind, Work};
 
 const HEADER: usize = 4;
 
@@ -112,7 +112,8 @@ pub struct Guard {
 
 impl Guard {
     /// The length of the longest table.
-    pub const BYTES_MOST: usize = Guard::HEAD + STATES_MOST * (HEADER + 2 * INPUTS_MOST);
+    pub const BYTES_MOST: usize =
+        Guard::HEAD + STATES_MOST * (HEADER + RowKind::Wide.entry_bytes() * INPUTS_MOST);
     /// No listing is longer: at most 41 bytes for its first line, and 101 for the line of a state.
     pub const LISTING_BYTES_MOST: usize = 41 + 101 * STATES_MOST;
     const HEAD: usize = HEADER + 6;
@@ -188,15 +189,25 @@ impl Guard {
         usize::from(u16::from_le_bytes([self.bytes[HEADER + 4], self.bytes[HEADER + 5]]))
     }
 
+    /// The kind of its rows, which is that of the first.
+    pub fn rows(&self) -> RowKind {
+        let kind = [self.bytes[Guard::HEAD + 2], self.bytes[Guard::HEAD + 3]];
+        match u16::from_le_bytes(kind) == RowKind::Wide.number() {
+            true => RowKind::Wide,
+            false => RowKind::Narrow,
+        }
+    }
+
     /// The output and the next state for a state and an input.
     ///
     /// # Panics
     /// Where the table has no such state or input.
     pub fn entry(&self, state: usize, input: u8) -> (u8, usize) {
         assert!(u32::from(input) < 1 << self.inputs(), "no such input");
-        let row = Guard::HEAD + state * (HEADER + (2 << self.inputs())) + HEADER;
-        let at = row + 2 * usize::from(input);
-        (self.bytes[at], usize::from(self.bytes[at + 1]))
+        let rows = self.rows();
+        let body = rows.entry_bytes() << self.inputs();
+        let start = Guard::HEAD + state * (HEADER + body) + HEADER;
+        rows.entry(&self.bytes[start..start + body], input)
     }
 }
 

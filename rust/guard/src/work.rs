@@ -1,5 +1,5 @@
 // Product states, inputs, outputs and letters at most, and the buckets and forks of the tuples' index: every size here is made from these.
-pub(crate) const STATES_MOST: usize = 256;
+pub(crate) const STATES_MOST: usize = 512;
 pub(crate) const INPUTS_MOST: usize = 16;
 pub(crate) const OUTPUTS_MOST: usize = 8;
 const LETTERS_MOST: usize = 64;
@@ -104,11 +104,11 @@ impl Default for Work {
     }
 }
 
-// Document 01's bound on the bytes of one call's work memory; those of all calls together keep it.
+// Document 02's bound on the bytes of one call's work memory; those of all calls together keep it.
 const _: () = assert!(
     8 * (Work::TUPLES + Work::VALUES + Work::ARRIVALS)
         + 8 * (Work::BESTS + Work::LEASTS + Work::HIGHS + Work::LOWS)
         + 2 * (Work::CELLS + Work::DROPPED + Work::GAINS + Work::BONUSES)
         + 2 * (Work::ORDER + Work::NUMBERS)
-        <= 65_536
+        <= 131_072
 );
