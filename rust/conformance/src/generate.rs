@@ -195,7 +195,7 @@ pub fn game(random: &mut Random, shape: Shape, most: usize) -> Vec<u8> {
 pub fn sheet(random: &mut Random) -> Vec<u8> {
     match random.below(20) {
         0 | 1 => return trusting_shield(random),
-        2 => return large_sheet(random),
+        2 | 3 => return large_sheet(random),
         _ => {}
     }
     let shapes = Shape::all();
@@ -292,7 +292,7 @@ const LARGE: [(u8, u8); 14] = [
     (24, 25), // 600
 ];
 
-/// A sheet of two counters that together have many states, and at times a game, which makes them more.
+/// A sheet of two counters that together have many states, and at times a monitor that can be lost.
 /// A line in leads the guard to all states of the counter that it moves, an output line to the states
 /// of the outputs chosen: so guards have up to as many states as the product, or few.
 pub fn large_sheet(random: &mut Random) -> Vec<u8> {
@@ -305,8 +305,10 @@ pub fn large_sheet(random: &mut Random) -> Vec<u8> {
     let second = (first + 1 + random.byte_below(lines.max(2) - 1)) % lines;
     bytes.extend(counter(random, shape, sizes.0, (first, true)));
     bytes.extend(counter(random, shape, sizes.1, (second, second != first)));
-    if random.once_in(4) {
-        bytes.extend(game(random, shape, 2));
+    match random.below(6) {
+        0 => bytes.extend(game(random, shape, 2)),
+        1 => bytes.extend(last_breaks(random, shape)),
+        _ => {}
     }
     bytes
 }

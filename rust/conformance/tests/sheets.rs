@@ -75,7 +75,9 @@ fn result_memory_of_every_length() {
 fn generated_sheets_are_of_every_sort() {
     let mut numbers: BTreeMap<u32, u64> = BTreeMap::new();
     let mut shapes: BTreeMap<(u8, u8, u8), u64> = BTreeMap::new();
-    let (mut correcting, mut dropping, mut looking, mut large) = (0, 0, 0, 0);
+    let (mut correcting, mut dropping, mut looking) = (0, 0, 0);
+    // Over 100 and over 256 product states, and over 256 guard states.
+    let (mut large, mut larger, mut wide) = (0, 0, 0);
     let count = 6_000;
     for case in 0..count {
         let sheet = generate::any_sheet(&mut Random::new(seed(), case));
@@ -89,15 +91,19 @@ fn generated_sheets_are_of_every_sort() {
         let kept = reference::Kept::by_rounds(&product);
         dropping += u64::from(kept.rounds() > 1);
         large += u64::from(product.count() > 100);
+        larger += u64::from(product.count() > 256);
+        wide += u64::from(made.states > 256);
         looking += u64::from(parsed.horizon > 1 && product.count() > 1);
         correcting += u64::from(parsed.mode == reference::Mode::Shield && made.states > 1);
     }
     println!("of {count}: {numbers:?}, shapes {shapes:?}");
-    println!("two rounds or more {dropping}, over 100 states {large}, looking ahead {looking}, shields of two states or more {correcting}");
+    println!("two rounds or more {dropping}, looking ahead {looking}, shields of two states or more {correcting}");
+    println!("over 100 states {large}, over 256 {larger}, guards of over 256 {wide}");
     for number in 0..=8 {
         assert!(numbers.get(&number).is_some_and(|&n| n >= 20), "too few of {number}: {numbers:?}");
     }
     assert!(numbers[&0] > count / 4, "too few accepted: {numbers:?}");
     assert_eq!(shapes.len(), generate::Shape::all().len(), "{shapes:?}");
-    assert!(dropping > 50 && large > 50 && looking > 500 && correcting > 200);
+    assert!(dropping > 50 && looking > 500 && correcting > 200);
+    assert!(large > 50 && larger > 50 && wide > 20);
 }
