@@ -38,12 +38,13 @@ fn expected(bytes: &[u8], work: &mut Work) -> (u32, String) {
         }
     };
     let kept = (0..supervisor.states()).filter(|&state| supervisor.is_kept(state)).count();
+    let kind = if guard.states() <= 256 { 17 } else { 20 };
     let rows = [
-        ("product states", supervisor.states(), ""),
-        ("kept states", kept, ""),
-        ("guard states", guard.states(), ""),
-        ("supervisor table", supervisor.as_bytes().len(), " bytes"),
-        ("guard table", guard.as_bytes().len(), " bytes"),
+        ("product states", supervisor.states(), String::new()),
+        ("kept states", kept, String::new()),
+        ("guard states", guard.states(), String::new()),
+        ("supervisor table", supervisor.as_bytes().len(), " bytes".to_string()),
+        ("guard table", guard.as_bytes().len(), format!(" bytes, rows of kind {kind}")),
     ];
     let rows = rows.map(|(what, figure, unit)| format!("  {what:<16}  {figure:>6}{unit}\n"));
     (0, format!("standard input: accepted\n{}", rows.concat()))

@@ -130,12 +130,35 @@ fn stored_tables_are_taken() {
     assert_eq!(guard(&["dot", "-"], &bytes).status, 1);
 }
 
+/// A guard of more than 256 states has rows of kind 20: stored, it is listed, drawn and run as others are.
+#[test]
+#[cfg_attr(not(guard_library), ignore = "needs the library: rt staticlib hundlezoqa_c")]
+fn stored_tables_with_wide_rows_are_taken() {
+    let folder = Folder::new("wide");
+    let (counters, table) = (sheet("counters-32-9.sheet"), folder.file("wide.table"));
+    assert_eq!(guard(&["make", &counters, "-o", &table], b"").status, 0);
+    let mut bytes = std::fs::read(&table).expect("there");
+    assert_eq!((bytes.len(), &bytes[12..14]), (10 + 288 * 7, &[20, 0][..]));
+    let listing = std::fs::read_to_string(sheet("counters-32-9.list")).expect("there");
+    assert_eq!(guard(&["list", &table], b"").text(), listing);
+    let graph = guard(&["dot", &table], b"").text();
+    assert!(graph.contains("  287 -> 0 [") && graph.contains("  256 -> 257 ["), "{graph}");
+    let run = guard(&["run", &table], "0\n".repeat(300).as_bytes()).text();
+    let answer = |state, steps| format!("out0 out1 | state {state} | steps {steps} | deviations 0");
+    let told = run.lines().zip(1..).all(|(line, step)| line == answer(step % 288, step));
+    assert!(told && run.lines().count() == 300, "{run}");
+    let checked = guard(&["check", &counters], b"").text();
+    assert!(checked.ends_with("guard table         2026 bytes, rows of kind 20\n"), "{checked}");
+    bytes[12] = 17;
+    assert_eq!(guard(&["list", "-"], &bytes).text(), "refused 11\n");
+}
+
 /// A refusal is `refused N` on standard output for a listing, and in words on standard error.
 #[test]
 #[cfg_attr(not(guard_library), ignore = "needs the library: rt staticlib hundlezoqa_c")]
 fn refusals_are_told_in_words() {
     for (name, number, words) in
-        [("P3", 8, "unrealizable"), ("counters-32-9", 7, "256"), ("P10", 5, "seventh")]
+        [("P3", 8, "unrealizable"), ("counters-32-17", 7, "512"), ("P10", 5, "seventh")]
     {
         let done = guard(&["list", &sheet(&format!("{name}.hex"))], b"");
         assert_eq!((done.status, done.text()), (1, format!("refused {number}\n")));

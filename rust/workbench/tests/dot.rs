@@ -61,14 +61,24 @@ fn inputs(when: &str, sheet: &Sheet) -> BTreeSet<usize> {
     row.iter().enumerate().filter(|(_, &next)| next == 1).map(|(input, _)| input).collect()
 }
 
+/// The rows of a guard table: for each input output and next state, which has a byte in rows of kind 17
+/// and two in rows of kind 20.
+fn rows(sheet: &Sheet, table: &[u8]) -> Vec<Vec<(u8, usize)>> {
+    let bytes = if table[12] == 20 { 3 } else { 2 };
+    let entry = |entry: &[u8]| {
+        let high = entry.get(2).map_or(0, |&high| usize::from(high));
+        (entry[0], usize::from(entry[1]) + 256 * high)
+    };
+    let rows = table[10..].chunks_exact(4 + (bytes << sheet.inputs));
+    rows.map(|row| row[4..].chunks_exact(bytes).map(entry).collect()).collect()
+}
+
 /// What must be drawn, by the reference: the guard's edges.
 fn guard_edges(sheet: &Sheet, table: &[u8]) -> BTreeMap<Edge, BTreeSet<usize>> {
     let mut edges: BTreeMap<Edge, BTreeSet<usize>> = BTreeMap::new();
-    let rows = table[10..].chunks_exact(4 + (2 << sheet.inputs));
-    for (state, row) in rows.enumerate() {
-        for (input, entry) in row[4..].chunks_exact(2).enumerate() {
-            let edge =
-                (state, usize::from(entry[1]), setting("out", sheet.outputs, entry[0]), false);
+    for (state, row) in rows(sheet, table).into_iter().enumerate() {
+        for (input, (output, next)) in row.into_iter().enumerate() {
+            let edge = (state, next, setting("out", sheet.outputs, output), false);
             edges.entry(edge).or_default().insert(input);
         }
     }
@@ -111,14 +121,14 @@ fn label(number: usize, sheet: &Sheet, product: &Product, state: usize, lost: bo
 
 /// The labels of a guard: its states are met again by following its table in the product.
 fn guard_labels(sheet: &Sheet, product: &Product, table: &[u8]) -> Vec<String> {
-    let rows: Vec<&[u8]> = table[10..].chunks_exact(4 + (2 << sheet.inputs)).collect();
+    let rows = rows(sheet, table);
     let mut places = vec![None; rows.len()];
     places[0] = Some(0);
-    for state in 0..rows.len() {
-        for (input, entry) in rows[state][4..].chunks_exact(2).enumerate() {
+    for (state, row) in rows.into_iter().enumerate() {
+        for (input, (output, next)) in row.into_iter().enumerate() {
             let from = places[state].expect("states are numbered as first met");
-            let to = product.edge(from, input, entry[0].into()).next();
-            places[usize::from(entry[1])] = places[usize::from(entry[1])].or(to);
+            let to = product.edge(from, input, output.into()).next();
+            places[next] = places[next].or(to);
         }
     }
     let label = |(state, place): (usize, &Option<usize>)| {

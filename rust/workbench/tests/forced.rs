@@ -159,7 +159,8 @@ fn other_sheets_are_refused() {
         ("A.sheet", "refused 23: realizable: the start is kept"),
         // Two of its states are lost, but not the start.
         ("limit.sheet", "refused 23: realizable: the start is kept"),
-        ("counters-32-9.sheet", "refused 7: more than 256 product states"),
+        ("counters-32-17.sheet", "refused 7: more than 512 product states"),
+        ("counters-32-9.sheet", "refused 23: realizable: the start is kept"),
         ("P10.hex", "refused 5: a seventh monitor"),
     ] {
         let done = guard(&["forced", &sheet(name)], b"");

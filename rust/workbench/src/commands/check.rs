@@ -15,7 +15,8 @@ pub const COMMAND: Command = Command {
     usage: "FILE",
     about: "whether a sheet is accepted; if not, why and where",
     help: "\
-Prints the number of states and the lengths of both tables; or the refusal's number, its ground, and
+Prints the number of states, the lengths of both tables and the kind of the guard's rows (20, with two
+bytes for a next state, where it has more than 256 states); or the refusal's number, its ground, and
 the record and byte where it is found, or of an unrealizable sheet of which monitors one is forced to
 break, in how many steps, and by which input first. All numbers are the proved library's. Places and
 names are told by an independent reader; should that one differ, the number stands alone and the exit
@@ -44,7 +45,8 @@ fn accepted(source: &Source, supervisor: &Supervisor, guard: &Guard, bench: &mut
     writeln!(bench.out, "  kept states       {kept:>6}")?;
     writeln!(bench.out, "  guard states      {:>6}", guard.states())?;
     writeln!(bench.out, "  supervisor table  {:>6} bytes", supervisor.as_bytes().len())?;
-    writeln!(bench.out, "  guard table       {:>6} bytes", guard.as_bytes().len())?;
+    let (length, kind) = (guard.as_bytes().len(), guard.rows().number());
+    writeln!(bench.out, "  guard table       {length:>6} bytes, rows of kind {kind}")?;
     Ok(())
 }
 
