@@ -3,24 +3,16 @@
 use std::hint::black_box;
 
 use conformance::{generate, Random};
-use guard::calls;
-use reference::{Board, Refusal, GUARD_BYTES_MOST, STEPS_MOST};
+use guard::{calls, RowKind};
+use reference::{Board, Refusal, STEPS_MOST};
 
 use crate::timing::{compare, sample, Effort, Runs, Times};
 
 /// The tuned call where there is none.
 const NONE: Option<fn()> = None;
 
-/// A loadable table of the largest size: 256 states, four lines in, two out.
-fn largest_table() -> Vec<u8> {
-    let mut random = Random::new(1, 1);
-    loop {
-        let table = generate::table(&mut random);
-        if table.len() == GUARD_BYTES_MOST && table[6] == 2 {
-            return table;
-        }
-    }
-}
+/// The mode, the lines and the horizon of the tables: four lines in, two out.
+const FIELDS: [u8; 4] = [0, 4, 2, 0];
 
 /// A step by the reference as a call of its own, as the library's is.
 #[inline(never)]
@@ -36,41 +28,68 @@ fn load_called(board: &mut Board, table: &[u8]) -> Result<(), Refusal> {
 
 /// What is timed on boards, run by run.
 pub struct Boards {
-    table: Vec<u8>,
     inputs: Vec<u8>,
+    tables: [Table; 2],
+}
+
+/// A table of as many states as its rows may have, with the times of load and steps.
+struct Table {
+    name: &'static str,
+    bytes: Vec<u8>,
     load: Runs,
     called: Runs,
     inlined: Runs,
 }
 
-impl Boards {
-    pub fn new() -> Boards {
-        let mut random = Random::new(1, 2);
-        Boards {
-            table: largest_table(),
-            inputs: (0..STEPS_MOST).map(|_| random.byte_below(16)).collect(),
-            load: Runs::default(),
-            called: Runs::default(),
-            inlined: Runs::default(),
-        }
+impl Table {
+    fn new(name: &'static str, kind: RowKind, states: usize) -> Table {
+        let bytes = generate::table_of(&mut Random::new(1, 1), kind, FIELDS, states);
+        let [load, called, inlined] = [(); 3].map(|()| Runs::default());
+        Table { name, bytes, load, called, inlined }
     }
 
-    pub fn run(&mut self, effort: Effort) {
-        let table = &self.table;
+    fn run(&mut self, effort: Effort, inputs: &[u8]) {
+        let table = &self.bytes;
         self.load.add(compare(
             effort,
             || calls::load(&mut [0; calls::BOARD_BYTES], black_box(table)),
             || load_called(&mut Board::default(), black_box(table)),
             NONE,
         ));
-        self.called.add(stepping(effort, table, &self.inputs, step_called));
-        self.inlined.add(stepping(effort, table, &self.inputs, Board::step));
+        self.called.add(stepping(effort, table, inputs, step_called));
+        self.inlined.add(stepping(effort, table, inputs, Board::step));
+    }
+
+    fn print(&self, width: usize) {
+        let length = self.bytes.len();
+        for (what, runs) in [
+            (format!("load of {length} bytes"), &self.load),
+            ("1,000,000 steps, each a call".to_string(), &self.called),
+            ("1,000,000 steps, the plain ones inlined".to_string(), &self.inlined),
+        ] {
+            println!("{:<width$} {runs}", format!("{}: {what}", self.name));
+        }
+    }
+}
+
+impl Boards {
+    pub fn new() -> Boards {
+        let mut random = Random::new(1, 2);
+        Boards {
+            inputs: (0..STEPS_MOST).map(|_| random.byte_below(16)).collect(),
+            tables: [
+                Table::new("256 states", RowKind::Narrow, 256),
+                Table::new("512 states", RowKind::Wide, 512),
+            ],
+        }
+    }
+
+    pub fn run(&mut self, effort: Effort) {
+        self.tables.iter_mut().for_each(|table| table.run(effort, &self.inputs));
     }
 
     pub fn print(&self, width: usize) {
-        println!("{:<width$} {}", format!("load of {} bytes", self.table.len()), self.load);
-        println!("{:<width$} {}", "1,000,000 steps, each a call", self.called);
-        println!("{:<width$} {}", "1,000,000 steps, the plain ones inlined", self.inlined);
+        self.tables.iter().for_each(|table| table.print(width));
     }
 }
 

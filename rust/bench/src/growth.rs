@@ -6,7 +6,7 @@ use crate::timing::{ratio, Effort, Runs, COLUMNS};
 
 /// The fewest and the most states: the sizes in between are doublings.
 const STATES_LEAST: usize = 8;
-const STATES_MOST: usize = 256;
+const STATES_MOST: usize = 512;
 const HORIZON: u8 = 6;
 /// Lines in and out: 2, 8 and 64 letters.
 const LINES: [(u8, u8); 3] = [(0, 1), (1, 2), (4, 2)];

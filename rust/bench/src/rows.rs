@@ -104,6 +104,7 @@ fn size(sheets: &[Vec<u8>]) -> String {
 pub fn all() -> Vec<Group> {
     vec![
         general(),
+        large(),
         lost(),
         ties(),
         few_letters(),
@@ -124,6 +125,17 @@ fn general() -> Group {
         ("chain", sheets::chain()),
     ];
     Group::by(ALL, "general", rows.map(named).into())
+}
+
+/// More than 256 states. A guard of so many has rows of kind 20.
+fn large() -> Group {
+    let rows = [
+        ("two counters, 300", sheets::counters((4, 2), 6, (30, 10))),
+        ("two counters, 512", sheets::counters((4, 2), 6, (32, 16))),
+        ("512, all in the guard", sheets::counters_by_lines_in(6, (32, 16))),
+        ("512, 2 letters", sheets::counters_of((0, 1), 6, 512)),
+    ];
+    Group::by(ALL, "more than 256 states", rows.map(named).into())
 }
 
 fn named((name, sheet): (&str, Vec<u8>)) -> (String, Vec<u8>) {
@@ -163,11 +175,11 @@ fn few_letters() -> Group {
 }
 
 fn refused() -> Group {
-    let notebook = sheets::from_text(include_str!("../../../sheets/counters-32-9.hex"));
+    let notebook = sheets::from_text(include_str!("../../../sheets/counters-32-17.hex"));
     let rows = [
-        ("counters 32, 9", sheets::counters((0, 1), 6, (32, 9))),
+        ("counters 32, 17", sheets::counters((0, 1), 6, (32, 17))),
         ("notebook's counters", notebook),
-        ("counters 32, 9", sheets::counters((4, 2), 6, (32, 9))),
+        ("counters 32, 17", sheets::counters((4, 2), 6, (32, 17))),
         ("six counters", sheets::six_counters()),
     ];
     let mut group = Group::new("refused 7", rows.map(named).into());
@@ -190,7 +202,7 @@ fn one_hash() -> Group {
 }
 
 fn shields() -> Group {
-    const SIZES: [usize; 5] = [8, 30, 60, 120, 240];
+    const SIZES: [usize; 4] = [8, 60, 120, 240];
     const LINES: [(u8, u8); 7] = [(0, 1), (1, 1), (2, 1), (0, 2), (1, 2), (2, 2), (0, 3)];
     let mut rows = Vec::new();
     for states in SIZES {

@@ -73,6 +73,11 @@ pub fn counters_of(lines: (u8, u8), horizon: u8, states: usize) -> Vec<u8> {
     counters(lines, horizon, ((states / second) as u8, second as u8))
 }
 
+/// Two counters moved by the first two of four lines in: a guard comes to all their states.
+pub fn counters_by_lines_in(horizon: u8, (first, second): (u8, u8)) -> Vec<u8> {
+    controller(4, 2, horizon).counter(first, 0).counter(second, 1).to_bytes()
+}
+
 /// Six counters, each moved by a line of its own: 64 new states from the first one alone.
 pub fn six_counters() -> Vec<u8> {
     (0..6).fold(controller(4, 2, 6), |sheet, line| sheet.counter(32, line)).to_bytes()
@@ -229,12 +234,12 @@ mod tests {
 
     #[test]
     fn sizes_are_as_asked_for() {
-        for states in [8, 16, 32, 64, 128, 256] {
+        for states in [8, 16, 32, 64, 128, 256, 512] {
             for lines in [(0, 1), (0, 3), (1, 2), (4, 2)] {
                 assert_eq!(product(&counters_of(lines, 0, states)).count(), states);
             }
         }
-        for states in [8usize, 30, 60, 120, 240] {
+        for states in [8usize, 60, 120, 240] {
             for (site_lines, outputs) in [(0, 1), (2, 1), (0, 2), (2, 2), (0, 3)] {
                 let found = product(&shield_of(site_lines, outputs, 0, states)).count();
                 assert!(found.abs_diff(states) <= 6, "{found} for {states}");

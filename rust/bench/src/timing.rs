@@ -4,12 +4,22 @@ use std::fmt;
 use std::hint::black_box;
 use std::time::{Duration, Instant};
 
-/// How long one sample takes at least, how many a run takes, and how many runs there are.
+/// How long one sample takes at least, how many a run takes at most, and how many runs there are.
 #[derive(Clone, Copy)]
 pub struct Effort {
     pub sample: Duration,
     pub samples: usize,
     pub runs: usize,
+}
+
+impl Effort {
+    /// The calls of a sample, and the samples of a run, where a call takes so long: fewer samples where
+    /// it is longer than a sample need be, but no less than a quarter.
+    fn shared(self, call: f64) -> (u32, usize) {
+        let calls = self.sample.as_secs_f64() / call;
+        let samples = (self.samples as f64 * calls) as usize;
+        (calls.clamp(1.0, 1e7) as u32, samples.clamp(self.samples / 4, self.samples))
+    }
 }
 
 /// The seconds of one call in one run: rattle (the proved library, where it was linked), plain (the
@@ -93,14 +103,13 @@ pub fn compare<A, B, C>(
     mut plain: impl FnMut() -> B,
     mut tuned: Option<impl FnMut() -> C>,
 ) -> Times {
-    let once = sample(1, &mut plain).max(1e-9);
-    let calls = (effort.sample.as_secs_f64() / once).clamp(1.0, 1e7) as u32;
+    let (calls, samples) = effort.shared(sample(1, &mut plain).max(1e-9));
     let mut best = Times {
         rattle: guard::LINKED.then_some(f64::MAX),
         plain: f64::MAX,
         tuned: tuned.is_some().then_some(f64::MAX),
     };
-    for _ in 0..effort.samples {
+    for _ in 0..samples {
         if let Some(time) = &mut best.rattle {
             *time = time.min(sample(calls, &mut rattle));
         }

@@ -35,13 +35,10 @@ pub fn loadable(table: &[u8]) -> Option<TableHead> {
     }
     let body_len = row_kind.body_len(inputs);
     let expected = [body_len as u8, 0, row_kind.number() as u8, 0];
-    let fits = |entry: &[u8]| {
-        let (output, next) = row_kind.read(entry);
-        output >> outputs == 0 && next < count
-    };
+    let fits = |(output, next): (u8, u16)| output >> outputs == 0 && next < count;
     let sound = rows.chunks_exact(RECORD_HEADER + body_len).all(|row| {
         let (header, body) = row.split_at(RECORD_HEADER);
-        header == expected && body.chunks_exact(row_kind.entry_len()).all(fits)
+        header == expected && row_kind.all(body, fits)
     });
     sound.then_some(TableHead { mode, inputs, outputs, horizon, count, rows: row_kind })
 }

@@ -74,6 +74,17 @@ impl RowKind {
         (entry[0], next)
     }
 
+    /// Whether all entries of a row's body fit: a loop for each kind, so that none asks for it at each
+    /// entry.
+    pub(crate) fn all(self, body: &[u8], fits: impl Fn((u8, u16)) -> bool) -> bool {
+        const NARROW: RowKind = RowKind::Narrow;
+        const WIDE: RowKind = RowKind::Wide;
+        match self {
+            NARROW => body.chunks_exact(NARROW.entry_len()).all(|entry| fits(NARROW.read(entry))),
+            WIDE => body.chunks_exact(WIDE.entry_len()).all(|entry| fits(WIDE.read(entry))),
+        }
+    }
+
     /// Writes an entry; a narrow one's next state is below 256.
     pub(crate) fn write(self, (output, next): (u8, u16), out: &mut Writer) {
         out.byte(output);
