@@ -292,8 +292,8 @@ const LARGE: [(u8, u8); 14] = [
     (24, 25), // 600
 ];
 
-/// A sheet of two counters that together have many states, and at times a monitor that can be lost.
-/// A line in leads the guard to all states of the counter that it moves, an output line to the states
+/// A sheet of two counters that together have many states, at times one more, and at times a monitor that
+/// can be lost. A line in leads the guard to all states of the counter that it moves, an output line to the states
 /// of the outputs chosen: so guards have up to as many states as the product, or few.
 pub fn large_sheet(random: &mut Random) -> Vec<u8> {
     let shape = random.pick(&Shape::all());
@@ -303,8 +303,10 @@ pub fn large_sheet(random: &mut Random) -> Vec<u8> {
     let first = random.byte_below(lines);
     // Another line, or where there is but one that line off.
     let second = (first + 1 + random.byte_below(lines.max(2) - 1)) % lines;
-    bytes.extend(counter(random, shape, sizes.0, (first, true)));
-    bytes.extend(counter(random, shape, sizes.1, (second, second != first)));
+    // Both leave a start of their own at the first step, whatever the letter.
+    let led_in = sizes.0.max(sizes.1) < 32 && random.once_in(3);
+    bytes.extend(counter(random, shape, sizes.0, led_in, (first, true)));
+    bytes.extend(counter(random, shape, sizes.1, led_in, (second, second != first)));
     match random.below(6) {
         0 => bytes.extend(game(random, shape, 2)),
         1 => bytes.extend(last_breaks(random, shape)),
@@ -313,20 +315,28 @@ pub fn large_sheet(random: &mut Random) -> Vec<u8> {
     bytes
 }
 
-/// A monitor that never breaks, moved on round by a line that is on, or off.
-fn counter(random: &mut Random, shape: Shape, states: u8, (line, on): (u8, bool)) -> Vec<u8> {
-    let moves = |letter: usize| (letter >> line & 1 == 1) == on;
-    let letters = shape.letters(Role::Soft);
-    let next = (0..states).flat_map(|state| {
-        (0..letters).map(move |letter| (state + u8::from(moves(letter))) % states)
-    });
+/// A monitor that never breaks, moved on round by a line that is on, or off; if it is led in, it begins in
+/// one state more, which it leaves for good.
+fn counter(
+    random: &mut Random,
+    shape: Shape,
+    round: u8,
+    led_in: bool,
+    (line, on): (u8, bool),
+) -> Vec<u8> {
+    let next = |state: u8, letter: usize| match state == round {
+        true => 0,
+        false => (state + u8::from((letter >> line & 1 == 1) == on)) % round,
+    };
+    let (states, letters) = (round + u8::from(led_in), shape.letters(Role::Soft));
+    let rows = (0..states).flat_map(|state| (0..letters).map(move |letter| next(state, letter)));
     // A hard one of a shield would come twice, by its copy.
     let soft = shape.mode == Mode::Shield || random.once_in(2);
     let (role, weight) =
         if soft { (Role::Soft, 1 + random.byte_below(3)) } else { (Role::Hard, 0) };
     let accepts = (0..states).map(|_| role == Role::Hard || random.once_in(4)).collect();
-    Monitor { role, weight, start: random.byte_below(states), accepts, next: next.collect() }
-        .record()
+    let start = if led_in { round } else { random.byte_below(round) };
+    Monitor { role, weight, start, accepts, next: rows.collect() }.record()
 }
 
 /// A sheet that is refused 8.

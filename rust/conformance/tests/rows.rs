@@ -6,6 +6,7 @@ use guard::RowKind;
 use reference::{Board, Kept, Product, Sheet, Values, GUARD_BYTES_MOST, STATES_MOST};
 
 const KINDS: [RowKind; 2] = [RowKind::Narrow, RowKind::Wide];
+const TOO_MANY_STATES: u32 = 7;
 const BAD_TABLE: u32 = 11;
 const BAD_INPUT: u32 = 12;
 const EMPTY: u32 = 20;
@@ -92,14 +93,61 @@ fn check_makers(subject: &mut dyn Subject) {
     assert!(cases(3_000) < 3_000 || small.min(few_of_many).min(many) > 100, "too few of a sort");
 }
 
+/// Two counters that a line in moves each, so that a guard comes to all their states; if they are led in,
+/// both leave a start of their own at the first step.
+fn counters(sizes: [u8; 2], led_in: bool) -> Vec<u8> {
+    let first = u8::from(led_in);
+    let mut sheet = guard::sheet::Sheet::controller(2, 1);
+    for (round, line) in sizes.into_iter().zip(0..) {
+        let next = |state: u8, letter: u8| match state < first {
+            true => first,
+            false => first + (state - first + (letter >> line & 1)) % round,
+        };
+        sheet = sheet.soft(1, first + round, |_| true, next);
+    }
+    sheet.to_bytes()
+}
+
+/// Guards of so many states as the bounds are, and of one more.
+fn check_bounds(subject: &mut dyn Subject) {
+    for (sizes, led_in, states) in [
+        ([17, 15], false, 255),
+        ([16, 16], false, 256),
+        ([16, 16], true, 257),
+        ([30, 17], true, 511),
+        ([32, 16], false, 512),
+    ] {
+        let bytes = counters(sizes, led_in);
+        let sheet = Sheet::parse(&bytes).expect("in bounds");
+        let rows = rows(&sheet, &Product::explore(&sheet).expect("few enough"));
+        assert_eq!(rows.len(), states);
+        let expected = match states {
+            ..=256 => narrow_table(&sheet, &rows),
+            _ => wide_table(&sheet, &rows),
+        };
+        let mut table = vec![0; expected.len()];
+        let made = subject.make_guard(&bytes, &mut table);
+        assert_eq!(
+            (made, table == expected),
+            ((0, expected.len() as u64), true),
+            "{states} states"
+        );
+        assert_eq!(subject.load(&mut Board::default(), &table), 0, "{states} states");
+    }
+    let too_many = counters([27, 19], false);
+    assert_eq!(subject.make_guard(&too_many, &mut [0; GUARD_BYTES_MOST]), (TOO_MANY_STATES, 0));
+}
+
 #[test]
 fn guards_of_the_reference_have_the_rows_of_their_states() {
+    check_bounds(&mut Reference);
     check_makers(&mut Reference);
 }
 
 #[test]
 #[cfg_attr(not(guard_library), ignore = "needs the library: rt staticlib hundlezoqa_c")]
 fn guards_of_the_library_have_the_rows_of_their_states() {
+    check_bounds(&mut Library::new(None));
     check_makers(&mut Library::new(None));
 }
 
