@@ -196,6 +196,7 @@ fn one_hash() -> Group {
     let rows = [
         ("8 x 8", sheets::one_hash(8, [4, 5])),
         ("16 x 16", sheets::one_hash(16, [4, 5])),
+        ("22 x 22", sheets::one_hash(22, [4, 5])),
         ("16 x 16, by a line in", sheets::one_hash(16, [0, 4])),
     ];
     Group::new("one hash", rows.map(named).into())

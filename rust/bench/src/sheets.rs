@@ -221,7 +221,7 @@ mod tests {
 
     #[test]
     fn one_hash_is_one_bucket() {
-        for (hidden, lines) in [(8, [4, 5]), (16, [4, 5]), (16, [0, 4])] {
+        for (hidden, lines) in [(8, [4, 5]), (16, [4, 5]), (16, [0, 4]), (22, [4, 5])] {
             let product = product(&one_hash(hidden, lines));
             assert_eq!(product.count(), hidden * hidden);
             for state in 0..product.count() {

@@ -1,11 +1,13 @@
+use crate::work::STATES_MOST;
+
 /// How the rows of a guard table are written: all of them alike.
 #[derive(Clone, Copy, Debug, PartialEq, Eq, Hash)]
 pub enum RowKind {
-    /// Kind 17: for each input the output and the next state, a byte each. A table with such rows has
-    /// at most 256 states, and every guard of so many is made with them.
+    /// Kind 17: for each input the output and the next state, a byte each. A guard of at most 256 states
+    /// is made with such rows, and no other can have them.
     Narrow,
     /// Kind 20: the same with two bytes for the next state. A guard of more states is made with such
-    /// rows.
+    /// rows; a board loads them with any number.
     Wide,
 }
 
@@ -15,6 +17,14 @@ impl RowKind {
         match self {
             RowKind::Narrow => 17,
             RowKind::Wide => 20,
+        }
+    }
+
+    /// The most states of a table with such rows.
+    pub const fn states_most(self) -> usize {
+        match self {
+            RowKind::Narrow => 256,
+            RowKind::Wide => STATES_MOST,
         }
     }
 

@@ -74,14 +74,13 @@ impl RowKind {
         (entry[0], next)
     }
 
-    /// Whether all entries of a row's body fit: a loop for each kind, so that none asks for it at each
-    /// entry.
+    /// Whether all entries of a row's body fit. There is a loop for each kind, so that none asks for it
+    /// at each entry.
     pub(crate) fn all(self, body: &[u8], fits: impl Fn((u8, u16)) -> bool) -> bool {
-        const NARROW: RowKind = RowKind::Narrow;
-        const WIDE: RowKind = RowKind::Wide;
+        use RowKind::{Narrow, Wide};
         match self {
-            NARROW => body.chunks_exact(NARROW.entry_len()).all(|entry| fits(NARROW.read(entry))),
-            WIDE => body.chunks_exact(WIDE.entry_len()).all(|entry| fits(WIDE.read(entry))),
+            Narrow => body.chunks_exact(Narrow.entry_len()).all(|entry| fits(Narrow.read(entry))),
+            Wide => body.chunks_exact(Wide.entry_len()).all(|entry| fits(Wide.read(entry))),
         }
     }
 

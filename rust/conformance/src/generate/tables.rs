@@ -2,7 +2,7 @@
 
 use guard::sheet::record;
 use guard::RowKind;
-use reference::{Board, STATES_MOST, STEPS_MOST};
+use reference::{Board, STEPS_MOST};
 
 use super::{damage, Shape};
 use crate::Random;
@@ -19,10 +19,7 @@ const KINDS: [RowKind; 2] = [RowKind::Narrow, RowKind::Wide];
 pub fn table(random: &mut Random) -> Vec<u8> {
     let shape = random.pick(&Shape::all());
     let kind = random.pick(&KINDS);
-    let most = match kind {
-        RowKind::Narrow => 256,
-        RowKind::Wide => STATES_MOST,
-    };
+    let most = kind.states_most();
     let count = match random.below(7) {
         0 => 1,
         1 => most,
@@ -209,25 +206,26 @@ pub fn any_board(random: &mut Random, table: &[u8]) -> Board {
         deviations: if table[4] == 1 { random.number() as u32 % (steps + 1) } else { 0 },
     };
     if random.once_in(2) {
-        match random.below(9) {
-            0 => board.loaded = false,
-            1 => board.mode = random.pick(&[0, 1, 2, 255]),
-            2 => board.inputs = random.pick(&[0, 1, 2, 3, 4, 5, 255]),
-            3 => board.outputs = random.pick(&[0, 1, 2, 3, 4, 255]),
-            4 => {
-                board.count =
-                    random.pick(&[0, 1, count.wrapping_add(1), 256, 257, 512, 513, 65_535])
-            }
-            5 => {
-                board.place =
-                    random.pick(&[count.wrapping_sub(1), count, count.wrapping_add(1), 65_535])
-            }
-            6 => board.steps = random.pick(&[0, STEPS_MOST, STEPS_MOST + 1, u32::MAX]),
-            7 => board.deviations = random.pick(&[0, 1, steps, steps + 1, u32::MAX]),
-            _ => {}
-        }
+        put_about_bounds(random, &mut board);
     }
     board
+}
+
+/// One field of a board about its bounds.
+fn put_about_bounds(random: &mut Random, board: &mut Board) {
+    let Board { count, steps, .. } = *board;
+    let about = [count.wrapping_sub(1), count, count.wrapping_add(1), 65_535];
+    match random.below(9) {
+        0 => board.loaded = false,
+        1 => board.mode = random.pick(&[0, 1, 2, 255]),
+        2 => board.inputs = random.pick(&[0, 1, 2, 3, 4, 5, 255]),
+        3 => board.outputs = random.pick(&[0, 1, 2, 3, 4, 255]),
+        4 => board.count = random.pick(&[0, 1, about[2], 256, 257, 512, 513, 65_535]),
+        5 => board.place = random.pick(&about),
+        6 => board.steps = random.pick(&[0, STEPS_MOST, STEPS_MOST + 1, u32::MAX]),
+        7 => board.deviations = random.pick(&[0, 1, steps, steps + 1, u32::MAX]),
+        _ => {}
+    }
 }
 
 /// An input about a board's bounds.
