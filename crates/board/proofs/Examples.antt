@@ -6,7 +6,10 @@ use Prim.Native.Nat.{ℕ, _-_}
 use Rattle.records.specs.Meaning.Bounded.{all}
 use Rattle.records.specs.Meaning.Numbers.{u16At}
 use Rattle.records.specs.Meaning.Limits.{linesOk, horizonOk}
-use Rattle.guard_table.specs.Meaning.GuardTable.{rowLength, lengthIn, rowAt, entryAt, headerIs, showsKind, kindOf, outputIn, nextIn}
+use Rattle.guard_table.specs.Meaning.RowKind.{nextAt}
+use Rattle.guard_table.specs.Meaning.GuardTable.{rowLength, lengthIn, rowAt, entryAt, headerIs, showsKind, kindOf, outputIn, nextIn, guardRow, tableIn}
+use Rattle.records.specs.Meaning.Lists.{cat}
+use Rattle.guard_table.specs.declared.kind.RowKind.the-variants.{Wide}
 use Rattle.board.specs.Meaning.Board.{countsOk, live, emptyBoard, runAt}
 use Rattle.guard_table.specs.Meaning.Loadable.{sizeOk, fieldsOk, tableHeadOk, entryOk, entriesOk, rowOk, rowsOk, loadable}
 use Rattle.board.specs.Meaning.Load.{boardOf, loadOn, loadNumber}
@@ -50,6 +53,8 @@ pub record Examples : Type 0 where
   pub letter : stepNumber (stepOn (boardOf off) off 2 .answer) ≡ 12
   pub occupied : loadNumber (loadOn (boardOf off) turns .answer) ≡ 21
   pub other-table : stepNumber (stepOn (boardOf off) turns 0 .answer) ≡ 11
+  pub wide-is : turns-wide ≡ tableIn Wide 0 1 1 0 2 (λ k i. k) (λ k i. 1 - k)
+  pub two-bytes : nextAt Wide (0 ∷ 44 ∷ 1 ∷ []) 1 ≡ 300
   pub wide-loads : loadNumber (loadOn emptyBoard turns-wide .answer) ≡ 0
   pub wide-steps : stepOn (boardOf turns) turns-wide 0 ≡ stepOn (boardOf turns) turns 0
   pub mixed : loadNumber (loadOn emptyBoard turns-mixed .answer) ≡ 11
@@ -57,7 +62,7 @@ pub record Examples : Type 0 where
   pub cut : loadNumber (loadOn emptyBoard (6 ∷ 0 ∷ 16 ∷ 0 ∷ []) .answer) ≡ 11
 
 pub examples : Examples
-unfolding all u16At linesOk horizonOk rowLength lengthIn entryAt headerIs showsKind kindOf outputIn nextIn rowAt countsOk live emptyBoard runAt
+unfolding all cat u16At linesOk horizonOk rowLength lengthIn entryAt headerIs showsKind kindOf outputIn nextIn guardRow tableIn rowAt countsOk live emptyBoard runAt
     sizeOk fieldsOk tableHeadOk entryOk entriesOk rowOk rowsOk loadable boardOf loadOn
     proposal differs deviates lengthFits entryFits boardMoved lookedUp stepOn
 examples =
@@ -67,6 +72,8 @@ examples =
       letter = refl;
       occupied = refl;
       other-table = refl;
+      wide-is = refl;
+      two-bytes = refl;
       wide-loads = refl;
       wide-steps = refl;
       mixed = refl;

@@ -171,11 +171,12 @@ impl Board {
         if !shows_kind(table) {
             return false;
         }
+        let count = self.count as usize;
         let layout = Layout {
             inputs: self.inputs,
             kind: kind_of(table),
         };
-        table.len() == layout.table_length(self.count as usize)
+        table.len() == layout.table_length(count)
     }
 
     // The step of a live board at an input below 2^inputs: the slice's length, the kind of its first row and one entry are looked at.

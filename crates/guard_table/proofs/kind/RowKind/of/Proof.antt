@@ -1,16 +1,15 @@
 -- `guard_table::kind::RowKind::of`: one test. Assumes nothing.
-use Rattle.records.specs.Laws.Tests.{cases}
-use Rattle.guard_table.specs.Meaning.RowKind.{kindFor}
+use mathlib.Core.Path.{sym}
+use native.Mathlib.Omega.{arith}
+use Rattle.guard_table.specs.Laws.GuardTable.{kind-narrow, kind-wide}
 use Rattle.guard_table.proofs.kind.RowKind.of.Statement.{statement}
 use Rattle.guard_table.proofs.kind.RowKind.of.Tie as tie
 
 returns : tie.Need-returns
-unfolding kindFor
-returns c = search cases
+returns c = sym (kind-narrow (c .before .args .count) (omega arith))
 
 returns-2 : tie.Need-returns-2
-unfolding kindFor
-returns-2 c = search cases
+returns-2 c = sym (kind-wide (c .before .args .count) (omega arith))
 
 pub of-spec : {M : Type 1} → statement M
 of-spec = tie.close (tie.spec returns returns-2)
