@@ -60,7 +60,7 @@ impl RowKind {
     {
         match self {
             RowKind::Narrow => 2,
-            RowKind::Wide => 3,
+            RowKind::Wide => Layout::WIDTH,
         }
     }
 }

@@ -2,7 +2,6 @@
 use crate::entry::entry_in;
 use crate::entry::entry_ok;
 use crate::heads::header_is;
-use crate::kind::RowKind;
 use crate::kind::kind_of;
 use crate::kind::shows_kind;
 use crate::layout::Layout;

@@ -1,6 +1,8 @@
 -- `guard_table::loadable::size_ok`: the tests in the definition's order. Assumes nothing.
 use native.Mathlib.Omega.{arith}
+use borrow.Author.Tests.{le-leb}
 use Rattle.records.specs.Laws.Tests.{cases}
+use Rattle.guard_table.specs.Meaning.RowKind.{statesMost}
 use Rattle.guard_table.specs.Laws.GuardTable.{states-most}
 use Rattle.guard_table.specs.Meaning.Loadable.{sizeOk}
 use borrow.Author.Needs.{needs}
@@ -28,7 +30,14 @@ table-length-requires c κs = let s = start c in
 
 returns-3 : tie.Need-returns-3
 unfolding sizeOk
-returns-3 c = search (cases, ← c .before .before .states .ensures, c .table-length .ensures)
+returns-3 c =
+    let d = c .before in
+    let a = start d .args in
+    simp (
+      le-leb 1 (a .count) (omega arith),
+      le-leb (a .count) (statesMost (a .layout .kind)) (omega (arith, d .before .states .ensures)),
+      c .table-length .ensures,
+    )
 
 pub size-ok-spec : {M : Type 1} → statement M
 size-ok-spec =
