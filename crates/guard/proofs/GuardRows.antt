@@ -13,7 +13,8 @@ use Rattle.guard_table.specs.Meaning.RowKind.{narrowMost, kindFor}
 use Rattle.guard_table.specs.Meaning.GuardTable.{tableIn}
 use Rattle.guard_table.specs.Meaning.NarrowTable.{narrowTable}
 use Rattle.guard_table.specs.declared.kind.RowKind.{RowKind}
-use Rattle.guard_table.specs.Laws.GuardTable.{kind-narrow, table-ext, table-narrow}
+use Rattle.guard_table.specs.Laws.RowKind.{kind-narrow}
+use Rattle.guard_table.specs.Laws.GuardTable.{table-ext, table-narrow}
 use Rattle.sheet.specs.Meaning.Decoded.{Decoded, SheetOk, inputLines}
 use Rattle.product.specs.Meaning.Step.{inputsOf, advance, firstTuple}
 use Rattle.product.specs.Model.ProductNumbering.{stateCount, stateOf, numberOf}

@@ -14,7 +14,8 @@ use Rattle.rounds.specs.Laws.CellPlaces.{row-in-table}
 use Rattle.game.specs.Model.Numbering.{there, find}
 use Rattle.guard_table.specs.Meaning.GuardTable.{guardTable}
 use Rattle.guard_table.specs.Meaning.RowKind.{kindFor}
-use Rattle.guard_table.specs.Laws.GuardTable.{kind-names, table-ext}
+use Rattle.guard_table.specs.Laws.RowKind.{kind-names}
+use Rattle.guard_table.specs.Laws.GuardTable.{table-ext}
 use Rattle.values.specs.Model.Values.{Game, cellNext}
 use Rattle.values.specs.Model.GuardStates.{chosen, follows, guardStates}
 use Rattle.values.specs.Model.GuardNumbering.{GuardReached, Following}

@@ -16,7 +16,7 @@ use Rattle.guard_table.specs.Meaning.RowKind.{statesMost}
 use Rattle.guard_table.specs.Meaning.GuardTable.{headLength, lengthIn, headMode, headInputs, headOutputs, headHorizon, headCount, shownLength, showsKind, kindOf, outputIn, nextIn}
 use Rattle.guard_table.specs.Meaning.Loadable.{sizeOk, fieldsOk, tableHeadOk, entryOk, entriesOk, rowOk, rowsOk, loadable}
 use Rattle.guard_table.specs.Model.Inside.{Sized, Closed}
-use Rattle.guard_table.specs.Laws.GuardTable.{states-most}
+use Rattle.guard_table.specs.Laws.RowKind.{states-most}
 
 -- a slice that shows its rows' kind is long enough to
 pub shown-long : (t : List ℕ) → showsKind t ≡ true → shownLength ≤ length t

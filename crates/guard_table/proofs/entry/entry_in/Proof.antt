@@ -5,7 +5,8 @@ use lib.ListN.{length}
 use lib.Pow.{pow-mono}
 use Rattle.records.specs.Meaning.Limits.{maxInputs}
 use Rattle.guard_table.specs.Meaning.RowKind.{entryWidth}
-use Rattle.guard_table.specs.Laws.GuardTable.{width-least, inside-shows, entry-lies, entry-read}
+use Rattle.guard_table.specs.Laws.RowKind.{width-least}
+use Rattle.guard_table.specs.Laws.GuardTable.{inside-shows, entry-lies, entry-read}
 use Rattle.guard_table.proofs.entry.entry_in.Statement.{statement}
 use Rattle.guard_table.proofs.entry.entry_in.Tie as tie
 

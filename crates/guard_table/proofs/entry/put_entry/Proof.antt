@@ -3,7 +3,7 @@ use mathlib.Core.Path.{_∙_}
 use native.Mathlib.Numerals.{add-one}
 use native.Mathlib.Omega.{arith}
 use lib.ListN.{length-set}
-use Rattle.guard_table.specs.Laws.GuardTable.{width-least}
+use Rattle.guard_table.specs.Laws.RowKind.{width-least}
 use borrow.Author.Needs.{needs}
 use Rattle.guard_table.proofs.entry.put_entry.Statement.{statement}
 use Rattle.guard_table.proofs.entry.put_entry.Tie as tie

@@ -5,7 +5,7 @@ use native.Mathlib.Omega.{arith}
 use lib.Dec.{eqb}
 use borrow.Author.Tests.{eq-eqb}
 use Rattle.guard_table.specs.Meaning.GuardTable.{firstKind, showsKind}
-use Rattle.guard_table.specs.Laws.GuardTable.{hidden-kind, shown-narrow, shown-else}
+use Rattle.guard_table.specs.Laws.RowKind.{hidden-kind, shown-narrow, shown-else}
 use Rattle.guard_table.proofs.kind.shows_kind.Statement.{statement}
 use Rattle.guard_table.proofs.kind.shows_kind.Tie as tie
 

@@ -3,7 +3,7 @@ use native.Mathlib.Omega.{arith}
 use borrow.Author.Tests.{le-leb}
 use Rattle.records.specs.Laws.Tests.{cases}
 use Rattle.guard_table.specs.Meaning.RowKind.{statesMost}
-use Rattle.guard_table.specs.Laws.GuardTable.{states-most}
+use Rattle.guard_table.specs.Laws.RowKind.{states-most}
 use Rattle.guard_table.specs.Meaning.Loadable.{sizeOk}
 use borrow.Author.Needs.{needs}
 use Rattle.guard_table.proofs.loadable.size_ok.Statement.{statement}

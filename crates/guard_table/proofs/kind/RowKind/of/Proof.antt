@@ -1,7 +1,7 @@
 -- `guard_table::kind::RowKind::of`: one test. Assumes nothing.
 use mathlib.Core.Path.{sym}
 use native.Mathlib.Omega.{arith}
-use Rattle.guard_table.specs.Laws.GuardTable.{kind-narrow, kind-wide}
+use Rattle.guard_table.specs.Laws.RowKind.{kind-narrow, kind-wide}
 use Rattle.guard_table.proofs.kind.RowKind.of.Statement.{statement}
 use Rattle.guard_table.proofs.kind.RowKind.of.Tie as tie
 

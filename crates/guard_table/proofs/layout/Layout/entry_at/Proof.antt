@@ -7,7 +7,7 @@ use Rattle.guard_table.specs.Meaning.RowKind.{entryWidth}
 use Rattle.guard_table.specs.Meaning.GuardTable.{entryAt}
 use Rattle.guard_table.specs.declared.kind.RowKind.the-variants.{Wide}
 use Rattle.guard_table.specs.Model.Inside.{rowMost}
-use Rattle.guard_table.specs.Laws.GuardTable.{width-most}
+use Rattle.guard_table.specs.Laws.RowKind.{width-most}
 use borrow.Author.Needs.{needs}
 use Rattle.guard_table.proofs.layout.Layout.entry_at.Statement.{statement}
 use Rattle.guard_table.proofs.layout.Layout.entry_at.Tie as tie
