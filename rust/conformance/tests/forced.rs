@@ -72,7 +72,7 @@ fn each_work_slice_has_its_own_bound() {
 #[cfg_attr(not(guard_library), ignore = "needs the library: rt staticlib hundlezoqa_c")]
 fn result_memory_of_every_length() {
     let mut random = Random::new(seed(), 0);
-    for _ in 0..40 {
+    for _ in 0..10 {
         let sheet = generate::lost_sheet(&mut random);
         let length = reference::forced_bytes(&sheet).expect("a play").len();
         for room in 0..length + 10 {
