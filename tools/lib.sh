@@ -136,6 +136,19 @@ make_listing() {
     update 'prove check listing' target/bin/listing crates crates.txt "$kit/KIT-ID"
 }
 
+# The listing program on standard input, once it is made. It runs as `rt` runs it: with the kit's loader and C library, and on
+# another processor under the kit's emulator.
+run_listing() {
+    machine=$kit/on/$(uname -m)/toolchain
+    emulator=$machine/bin/qemu-x86_64
+    [ -x "$emulator" ] || emulator=
+    ${emulator:+"$emulator"} "$machine/lib/ld-linux-x86-64.so.2" --library-path "$machine/lib" "$root/target/bin/listing" ||
+        stop 2 "the listing program ended with status $?"
+}
+
+# The bytes of what tools/hex.awk writes: lines of octal escapes, which printf knows in every shell.
+from_octal() { while IFS= read -r escapes; do printf "$escapes"; done; }
+
 # Where the static library is: in the folder that GUARD_STATICLIB names, if it is set.
 archive=${GUARD_STATICLIB:-target/staticlib}/libhundlezoqa_c.a
 

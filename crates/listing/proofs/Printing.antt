@@ -1,14 +1,14 @@
 -- The maker's answer for a sheet, told, is what is printed for it; and it fits the text memory.
 -- Assumes nothing.
-use mathlib.Core.Path.{_≡_, refl, sym, ap, ap₂, _∙_}
+use mathlib.Core.Path.{_≡_, refl, sym, ap, ap₂, _∙_, subst}
 use mathlib.Core.Bool.{Bool, true, false, cond}
 use mathlib.Core.List.{List}
 use Prim.Native.Nat.{ℕ, zero, suc, _≤_, _<_}
 use native.Mathlib.Omega.{arith}
 use lib.Dec.{ltb, eqb}
 use lib.ListN.{length, take}
-use lib.Seq.{sets, length-sets, take-append-seam}
-use borrow.Author.Tests.{ltb-false, le-leb, lt-leb, ne-eqb}
+use lib.Seq.{sets, length-sets, length-take-le, take-all, take-append-seam}
+use borrow.Author.Tests.{ltb-false, lt-ltb, le-ltb, le-leb, lt-leb, ne-eqb}
 use Rattle.records.specs.Laws.Tests.{by-test}
 use Rattle.records.specs.Meaning.Limits.{maxStates}
 use Rattle.records.specs.Laws.Lists.{sets-front}
@@ -44,7 +44,7 @@ use Rattle.listing_text.specs.Meaning.Listing.{listingOf, refusedText, tooLongT
 use Rattle.report.specs.Promises.Report.{Writes, textLength, outcomeDue, outcomeText, listedLength}
 use Rattle.report.specs.Laws.ListingAnswers.{writes-fits, outcome-most}
 use Rattle.report.specs.declared.Listed.{Listed}
-use Rattle.listing.specs.Promises.Printed.{sheetMost, sheetGround, guardText, printed, Prints, Tells, PrintsGuard, PrintsSheet}
+use Rattle.listing.specs.Promises.Printed.{sheetMost, sheetGround, guardText, printed, Prints, Tells, PrintsGuard, PrintsSheet, ReadInto, readText, PrintsRead}
 
 -- ---- a sheet that is accepted
 
@@ -206,7 +206,7 @@ module _ {s before lent : List ℕ} {made : Made} {after : List ℕ} (m : MakesG
 
 -- ---- by the test of the length
 
-pub prints-guard : (s : List ℕ) {before : List ℕ} {r : ℕ} {after : List ℕ} → length s ≤ sheetMost → PrintsGuard s before r after
+prints-guard : (s : List ℕ) {before : List ℕ} {r : ℕ} {after : List ℕ} → length s ≤ sheetMost → PrintsGuard s before r after
     → PrintsSheet s before r after
 unfolding printed
 prints-guard s h p =
@@ -217,9 +217,36 @@ prints-guard s h p =
       tells = λ _. rw e (p .tells);
     }
 
-pub prints-long : (s : List ℕ) {before : List ℕ} {r : ℕ} {after : List ℕ} → sheetMost < length s → Prints tooLongText before r after
+prints-long : (s : List ℕ) {before : List ℕ} {r : ℕ} {after : List ℕ} → sheetMost < length s → Prints tooLongText before r after
     → PrintsSheet s before r after
 unfolding printed
 prints-long s h p =
     let e = lt-leb (length s) sheetMost h in
     record { prints = rw e p; too-long = λ _. rw e; tells = λ l. absurd (omega arith) }
+
+-- ---- by how much was read
+
+-- with room left over, the input is what was read
+all-read : {w memory : List ℕ} {size : ℕ} → ReadInto w memory size → size < length memory → take size memory ≡ w
+all-read {w} {size = size} read h = read .front ∙ take-all size w (omega (arith, read .ended h))
+
+-- the memory has room for one byte more than a sheet
+pub short-read : (memory : List ℕ) {size : ℕ} {before : List ℕ} {r : ℕ} {after : List ℕ} → size ≤ sheetMost → sheetMost < length memory
+    → PrintsGuard (take size memory) before r after → PrintsRead memory size before r after
+unfolding readText
+short-read memory {size} {before} {r} {after} h room p =
+    let short : length (take size memory) ≤ sheetMost = omega (arith, length-take-le size memory (omega arith)) in
+    record {
+      prints = rw (le-ltb sheetMost size h) (p .prints);
+      whole = λ w read.
+          subst (λ (s : List ℕ). PrintsSheet s before r after) (all-read read (omega arith)) (prints-guard (take size memory) short p);
+    }
+
+pub long-read : (memory : List ℕ) {size : ℕ} {before : List ℕ} {r : ℕ} {after : List ℕ} → sheetMost < size
+    → Prints tooLongText before r after → PrintsRead memory size before r after
+unfolding readText
+long-read memory {size} h p =
+    record {
+      prints = rw (lt-ltb sheetMost size h) p;
+      whole = λ w read. prints-long w (omega (arith, read .held)) p;
+    }

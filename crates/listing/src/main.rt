@@ -4,10 +4,7 @@ use guard_table::layout::Layout;
 use libc::STDIN_FILENO;
 use libc::STDOUT_FILENO;
 use report::Report;
-ghost use Prim.Native.Nat.{_≤_};
-ghost use lib.ListN.{length};
-ghost use Rattle.report.specs.Promises.Report.{textLength};
-ghost use Rattle.listing.specs.Promises.Printed.{PrintsSheet, PrintsGuard};
+ghost use Rattle.listing.specs.Promises.Printed.{PrintsRead, PrintsGuard};
 
 // The bytes of a sheet that is not too long, and one more, up to which it is read.
 pub struct Listing {}
@@ -19,27 +16,26 @@ impl Listing {
 }
 
 fn main() {
-    let mut sheet = [0u8; Listing::READ];
+    let mut memory = [0u8; Listing::READ];
     let mut text = [0u8; Report::TEXT];
-    let size = io::read_full(STDIN_FILENO, &mut sheet);
-    let length = print(&sheet[..size], &mut text);
+    let size = io::read_full(STDIN_FILENO, &mut memory);
+    let length = print(&memory, size, &mut text);
     io::write_all(STDOUT_FILENO, &text[..length]);
 }
 
-// What is printed for a sheet, at the start of the text memory; answers its length.
-fn print(sheet: &[u8], text: &mut [u8]) -> usize
-    requires { ⌜ textLength ≤ length (now text) ⌝ }
-    ensures { λ r. ⌜ PrintsSheet (now (sheet .entry)) (now (text .entry)) r (now (text .exit)) ⌝ }
+// What is printed for what was read: `size` bytes, at the start of the memory. Room left over says that the end was seen.
+fn print(memory: &[u8; Listing::READ], size: usize, text: &mut [u8; Report::TEXT]) -> usize
+    ensures { λ r. ⌜ PrintsRead (now (memory .entry)) size (now (text .entry)) r (now (text .exit)) ⌝ }
 {
-    if Listing::SHEET < sheet.len() {
+    if Listing::SHEET < size {
         return Report::too_long(text).length();
     }
-    print_guard(sheet, text)
+    let read = &memory[..];
+    print_guard(&read[..size], text)
 }
 
 // The listing of a sheet's guard, or the line of its refusal. The result memory holds the longest table.
-fn print_guard(sheet: &[u8], text: &mut [u8]) -> usize
-    requires { ⌜ textLength ≤ length (now text) ⌝ }
+fn print_guard(sheet: &[u8], text: &mut [u8; Report::TEXT]) -> usize
     ensures { λ r. ⌜ PrintsGuard (now (sheet .entry)) (now (text .entry)) r (now (text .exit)) ⌝ }
 {
     let mut result = [0u8; Layout::MOST];

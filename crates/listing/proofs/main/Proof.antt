@@ -1,4 +1,4 @@
--- `listing::main`: what is read lies inside its memory, and so does what is printed. Assumes nothing.
+-- `listing::main`: what is printed lies inside its memory. Assumes nothing.
 use mathlib.Core.Path.{sym}
 use lib.Seq.{length-take-le}
 use borrow.Author.Needs.{needs}
@@ -11,15 +11,6 @@ slice-aggregate-read-full c = search needs
 read-full-requires : tie.Need-read-full-requires
 read-full-requires c κs = search needs
 
-array-share-prefix-sheet : tie.Need-array-share-prefix-sheet
-array-share-prefix-sheet c = search needs
-
-slice-aggregate-print : tie.Need-slice-aggregate-print
-slice-aggregate-print c = search needs
-
-slice-aggregate-print-2 : tie.Need-slice-aggregate-print-2
-slice-aggregate-print-2 c = search needs
-
 print-requires : tie.Need-print-requires
 print-requires c κs = search needs
 
@@ -27,7 +18,7 @@ array-share-prefix-text : tie.Need-array-share-prefix-text
 array-share-prefix-text c = search needs
 
 slice-aggregate-write-all : tie.Need-slice-aggregate-write-all
-slice-aggregate-write-all c = sym (length-take-le _ _ (c .before .before .print .ensures .prints .inside))
+slice-aggregate-write-all c = sym (length-take-le _ _ (c .before .print .ensures .prints .inside))
 
 write-all-requires : tie.Need-write-all-requires
 write-all-requires c κs = search needs
@@ -41,9 +32,6 @@ main-spec =
     (tie.spec
     slice-aggregate-read-full
     read-full-requires
-    array-share-prefix-sheet
-    slice-aggregate-print
-    slice-aggregate-print-2
     print-requires
     array-share-prefix-text
     slice-aggregate-write-all

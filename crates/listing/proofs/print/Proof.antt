@@ -1,14 +1,11 @@
--- `listing::print`: by the length of the sheet. Assumes nothing.
-use mathlib.Core.Path.{refl}
+-- `listing::print`: by how much was read. Assumes nothing.
+use mathlib.Core.Path.{refl, sym}
 use native.Mathlib.Omega.{arith}
-use Rattle.listing.proofs.Printing.{writes-prints, prints-guard, prints-long}
+use lib.Seq.{length-take-le}
+use Rattle.listing.proofs.Printing.{writes-prints, short-read, long-read}
 use borrow.Author.Needs.{needs}
 use Rattle.listing.proofs.print.Statement.{statement}
 use Rattle.listing.proofs.print.Tie as tie
-
--- the place that the promise looks back to
-abbrev told : tie.After-length → tie.After-too-long
-told c = c .before .before .before
 
 too-long-requires : tie.Need-too-long-requires
 too-long-requires c κs = search needs
@@ -16,22 +13,25 @@ too-long-requires c κs = search needs
 length-requires : tie.Need-length-requires
 length-requires c κs = search needs
 
-same-length : tie.Need-same-length
-same-length c = search needs
-
 returns : tie.Need-returns
-returns c = prints-long _ (omega arith) (writes-prints (told c .too-long .ensures) refl (omega arith) refl (c .length .ensures))
+returns c = long-read _ (omega arith) (writes-prints (c .before .too-long .ensures) refl (omega arith) refl (c .length .ensures))
+
+slice-aggregate-print-guard : tie.Need-slice-aggregate-print-guard
+slice-aggregate-print-guard c = sym (length-take-le _ _ (omega arith))
 
 print-guard-requires : tie.Need-print-guard-requires
 print-guard-requires c κs = search needs
 
-same-length-2 : tie.Need-same-length-2
-same-length-2 c = search needs
-
 returns-2 : tie.Need-returns-2
-returns-2 c = prints-guard _ (omega arith) (c .before .before .print-guard .ensures)
+returns-2 c = short-read _ (omega arith) (omega arith) (c .print-guard .ensures)
 
 pub print-spec : {M : Type 1} → statement M
 print-spec =
     tie.close
-    (tie.spec too-long-requires length-requires same-length returns print-guard-requires same-length-2 returns-2)
+    (tie.spec
+    too-long-requires
+    length-requires
+    returns
+    slice-aggregate-print-guard
+    print-guard-requires
+    returns-2)

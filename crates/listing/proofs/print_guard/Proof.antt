@@ -10,13 +10,13 @@ use Rattle.listing.proofs.print_guard.Tie as tie
 
 -- the places that the promise looks back to
 abbrev reported : tie.After-length → tie.After-outcome
-reported c = c .before .before .before
+reported c = c .before
 
 abbrev made : tie.After-outcome → tie.After-make
 made c = c .before .before .before .before .before .before .before .before .before .before .before .before .before
 
 abbrev entered : tie.After-make → tie.After-shared-slice-known
-entered c = c .before .before .before .before .before .before .before .before .before .before .before .before
+entered c = c .before .before .before .before .before .before .before .before .before .before .before
 
 slice-aggregate-make : tie.Need-slice-aggregate-make
 slice-aggregate-make c = refl
@@ -60,9 +60,6 @@ outcome-requires c κs = search needs
 length-requires : tie.Need-length-requires
 length-requires c κs = search needs
 
-same-length : tie.Need-same-length
-same-length c = search needs
-
 returns : tie.Need-returns
 unfolding exactly
 returns c =
@@ -70,7 +67,7 @@ returns c =
     let done = made told in
     outcome-prints {lent = exactly guardWork} (done .make .ensures .0) (λ k. omega (arith, entered done .shared-slice-known .given k))
     refl (refl {a = exactly guardWork})
-    (omega (arith, entered done .before .pre)) (told .outcome .ensures) (c .length .ensures)
+    (omega (arith, told .before .outcome-arg .given)) (told .outcome .ensures) (c .length .ensures)
 
 pub print-guard-spec : {M : Type 1} → statement M
 print-guard-spec =
@@ -90,5 +87,4 @@ print-guard-spec =
     slice-aggregate-outcome
     outcome-requires
     length-requires
-    same-length
     returns)

@@ -4,8 +4,8 @@ use mathlib.Core.Path.{_≡_}
 use mathlib.Core.Bool.{cond}
 use mathlib.Core.List.{List}
 use Prim.Native.Nat.{ℕ, _≤_, _<_}
-use lib.Dec.{leb, eqb}
-use lib.ListN.{length}
+use lib.Dec.{ltb, leb, eqb}
+use lib.ListN.{length, take}
 use lib.Seq.{sets}
 use Rattle.sheet.specs.Meaning.Decoded.{Decoded}
 use Rattle.sheet.specs.Meaning.Refusals.{sheetNumber, firstNumber}
@@ -57,3 +57,22 @@ pub record PrintsSheet (s before : List ℕ) (r : ℕ) (after : List ℕ) : Type
   pub prints : Prints (printed s) before r after
   pub too-long : sheetMost < length s → printed s ≡ tooLongText
   pub tells : length s ≤ sheetMost → Tells s (printed s)
+
+-- ---- of what was read
+
+-- a memory into which the input `whole` was read: as many of its bytes as there are, or as there is room for, at its start; room left
+-- over says that the end was seen
+pub record ReadInto (whole memory : List ℕ) (size : ℕ) : Type 0 where
+  pub room : size ≤ length memory
+  pub held : size ≤ length whole
+  pub front : take size memory ≡ take size whole
+  pub ended : size < length memory → length whole ≡ size
+
+-- what is printed for the `size` bytes at the start of a memory
+unfoldable pub readText : List ℕ → ℕ → List ℕ
+readText memory size = cond (ltb sheetMost size) tooLongText (guardText (take size memory))
+
+-- by equation, for all arguments; and of every input that may have been read so: what is due for the whole of it
+pub record PrintsRead (memory : List ℕ) (size : ℕ) (before : List ℕ) (r : ℕ) (after : List ℕ) : Type 0 where
+  pub prints : Prints (readText memory size) before r after
+  pub whole : (w : List ℕ) → ReadInto w memory size → PrintsSheet w before r after
