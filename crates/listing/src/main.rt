@@ -23,7 +23,8 @@ fn main() {
     io::write_all(STDOUT_FILENO, &text[..length]);
 }
 
-// What is printed for what was read: `size` bytes, at the start of the memory. Room left over says that the end was seen.
+// What is printed for what was read, `size` bytes at the start of the memory; answers the text's length. Room left over says that the
+// end was seen.
 fn print(memory: &[u8; Listing::READ], size: usize, text: &mut [u8; Report::TEXT]) -> usize
     ensures { λ r. ⌜ PrintsRead (now (memory .entry)) size (now (text .entry)) r (now (text .exit)) ⌝ }
 {
