@@ -18,7 +18,7 @@ use Rattle.solve.specs.Promises.Making.{Makes}
 use Rattle.solve.specs.Laws.Judging.{Only, makes, accepted-layout, written-front}
 use Rattle.solve.specs.declared.made.Made.{Made}
 use Rattle.plan.specs.Laws.Solved.{sheet-horizon}
-use Rattle.plan.specs.Model.GuardOfSheet.{guardTableBy, statesBy, ownHorizon, guardTableOf, statesOf}
+use Rattle.plan.specs.Model.GuardOfSheet.{guardTableBy, statesBy, guardTableOf, statesOf}
 use Rattle.guard.specs.Promises.GuardMaker.{guardWork, Rows, MakesOver, MakesGuard}
 use Rattle.guard.proofs.FaithfulTable.{faithful}
 use Rattle.guard.proofs.GuardRows.{table-rows, only-rows, narrow-rows}
@@ -57,4 +57,4 @@ guard-makes horizon near {s} {before} {r} {after} lent answers read only =
 pub guard-promise : {s before : List ℕ} {r : Made} {after : List ℕ} (lent : List ℕ) → Bytes s
     → Answers guardTableOf statesOf (longEnough guardWork lent) s before r after → MakesGuard s before lent r after
 guard-promise {s} lent bytes answers =
-    guard-makes ownHorizon (λ d ok. sheet-horizon d (ok .horizon)) lent answers (reads s bytes) (only-sheet s)
+    guard-makes (λ d. d .horizon) (λ d ok. sheet-horizon d (ok .horizon)) lent answers (reads s bytes) (only-sheet s)

@@ -34,7 +34,7 @@ use Rattle.solve.specs.Laws.StateGrounds.{start-in}
 use Rattle.solve.specs.declared.made.Made.{Made}
 use Rattle.solve.specs.declared.made.Made.the-variants.{Table, Refused}
 use Rattle.guard_table.specs.Meaning.Loadable.{loadable}
-use Rattle.plan.specs.Model.GuardOfSheet.{guardTableBy, ownHorizon, guardTableOf, statesOf}
+use Rattle.plan.specs.Model.GuardOfSheet.{guardTableBy, guardTableOf, statesOf}
 use Rattle.guard.specs.Promises.GuardMaker.{guardWork, MakesGuard}
 use Rattle.plan.specs.Laws.Reaching.{guard-fits}
 use Rattle.plan.specs.Laws.Solved.{sheet-horizon}
@@ -81,7 +81,7 @@ module _ (d : Decoded) (ok : SheetOk d) (fits : stateCount d ≤ maxStates) (sta
   short : length (guardTableOf d) ≤ tableMost
   short =
       let few : statesOf d ≤ maxStates = omega (arith, guard-fits d fits (d .horizon) start) in
-      omega (arith, length-guard ownHorizon d, length-most (kindFor (statesOf d)) (inputLines d) (statesOf d) (ok .head .inputs) few)
+      omega (arith, length-guard (λ x. x .horizon) d, length-most (kindFor (statesOf d)) (inputLines d) (statesOf d) (ok .head .inputs) few)
 
 -- ---- the number of the maker's answer
 

@@ -4,7 +4,7 @@ use Prim.Native.Nat.{_≤_}
 use native.Mathlib.Omega.{arith}
 use lib.ListN.{length}
 use Rattle.sheet.specs.declared.layout.Verdict.{Verdict}
-use Rattle.plan.specs.Model.GuardOfSheet.{ownHorizon, guardTableOf, statesOf}
+use Rattle.plan.specs.Model.GuardOfSheet.{guardTableOf, statesOf}
 use Rattle.plan.specs.Model.Planned.{Room}
 use Rattle.plan.specs.Laws.Planned.{playable, own-horizon, horizon-in-bounds}
 use Rattle.sheet.specs.Laws.LayoutFacts.{inputs-low, outputs-low}
@@ -146,7 +146,7 @@ returns : tie.Need-returns
 returns c = let at = planned (c .before) in
     let r = ready (told (counted at)) in
     r .answers guardTableOf statesOf
-    (layout-short ownHorizon (r .fits) (playable (r .solution)) (own-horizon _ _) (at .plan .ensures)
+    (layout-short (λ d. d .horizon) (r .fits) (playable (r .solution)) (own-horizon _ _) (at .plan .ensures)
     (entry (first at) .args .result .now) (c .before .guard-length .ensures) (omega arith))
 
 write-requires : tie.Need-write-requires
@@ -206,7 +206,7 @@ returns-3 : tie.Need-returns-3
 returns-3 c = let at = planned (fit c .before) in
     let r = ready (told (counted at)) in
     r .answers guardTableOf statesOf
-    (layout-written ownHorizon (r .fits) (playable (r .solution)) (own-horizon _ _) (at .plan .ensures)
+    (layout-written (λ d. d .horizon) (r .fits) (playable (r .solution)) (own-horizon _ _) (at .plan .ensures)
     (entry (first at) .args .result .now) (fit c .before .guard-length .ensures) (omega (arith, fit c .if1 .left))
     (wrote c .write .ensures))
 
