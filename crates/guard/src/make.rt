@@ -1,7 +1,5 @@
 // The maker of guard tables.
-use plan::making::make_with;
-use records::clear::clear16;
-use records::clear::clear64;
+use plan::making::make_cleared;
 use records::limits::Limits;
 use solve::made::Made;
 use states::index::Index;
@@ -82,7 +80,7 @@ impl Guard {
             order.len(),
             numbers.len(),
         );
-        let made = make_with(
+        make_cleared(
             ok,
             sheet,
             result,
@@ -95,17 +93,7 @@ impl Guard {
             arrivals,
             order,
             numbers,
-        );
-        clear64(tuples);
-        clear16(cells);
-        clear16(dropped);
-        clear16(gains);
-        clear16(bonuses);
-        clear64(values);
-        clear64(arrivals);
-        clear16(order);
-        clear16(numbers);
-        made
+        )
     }
 }
 
