@@ -28,7 +28,7 @@ use Rattle.forecast.specs.Model.Forecast.{forecastCard}
 use Rattle.forecast.specs.Model.Forecasting.{AnswersForecast}
 use Rattle.forecast.specs.Laws.Sums.{sums-by, best-sums-by}
 use Rattle.forecast.specs.Promises.Forecast.{forecastWork, Foretells, Unforetold, MakesForecast}
-use Rattle.forecast.specs.declared.making.Forecasting.{Forecasting}
+use Rattle.forecast.specs.declared.answer.Forecasting.{Forecasting}
 use Rattle.forecast.specs.Laws.Foretells.{foretells, only-card}
 
 -- the card of a refusal

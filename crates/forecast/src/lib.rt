@@ -1,3 +1,4 @@
 // The forecast card of a sheet: what each product state can still earn, at best and at least.
+pub mod answer;
 pub mod make;
-pub mod making;
+mod making;

@@ -1,5 +1,5 @@
 // The maker of forecast cards.
-use crate::making::Forecasting;
+use crate::answer::Forecasting;
 use crate::making::make_with;
 use records::clear::clear16;
 use records::clear::clear64;

@@ -1,4 +1,5 @@
 // The maker of forecast cards, but for the work memory, which is left as it falls.
+use crate::answer::Forecasting;
 use card::Card;
 use outlook::horizon::foresee;
 use plan::gains::fill_bonuses;
@@ -13,12 +14,6 @@ ghost use Rattle.sheet.specs.Model.Where.{Fits, decoded};
 ghost use Rattle.plan.specs.Model.Planned.{Playable};
 ghost use Rattle.forecast.specs.Model.Forecast.{forecastCard, ForecastRoom};
 ghost use Rattle.forecast.specs.Model.Forecasting.{AnswersForecast};
-
-// The verdict, and the card: on a refusal it has no state, and every entry is lost.
-pub struct Forecasting {
-    pub verdict: Verdict,
-    pub card: Card,
-}
 
 // The card of a solved sheet whose start is kept: what steps earn, the sums over the horizon, and their averages.
 pub fn foretell(

@@ -13,7 +13,7 @@ use Rattle.card_words.specs.Model.CardNumbers.{AllNumbers}
 use Rattle.card_words.specs.Laws.CardNumbers.{lost-numbers, card-numbers}
 use Rattle.forecast.specs.Model.Forecast.{forecastCard}
 use Rattle.forecast.specs.Promises.Forecast.{MakesForecast}
-use Rattle.forecast.specs.declared.making.Forecasting.{Forecasting}
+use Rattle.forecast.specs.declared.answer.Forecasting.{Forecasting}
 
 pub made-numbers : {s lent : List ℕ} {r : Forecasting} → MakesForecast s lent r → AllNumbers (r .card .entries)
 unfolding forecastCard

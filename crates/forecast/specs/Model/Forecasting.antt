@@ -10,7 +10,7 @@ use Rattle.solve.specs.Model.Making.{sheetOf}
 use Rattle.solve.specs.Model.Opening.{openingNumber}
 use Rattle.card.specs.Model.Card.{lostCard}
 use Rattle.forecast.specs.Model.Forecast.{forecastCard}
-use Rattle.forecast.specs.declared.making.Forecasting.{Forecasting}
+use Rattle.forecast.specs.declared.answer.Forecasting.{Forecasting}
 
 -- the opening's number, and the sheet's card; on a refusal no state and every entry lost
 pub record AnswersForecast (work : Bool) (s : List ℕ) (r : Forecasting) : Type 0 where

@@ -24,7 +24,7 @@ use Rattle.card.specs.declared.Prospect.{Prospect}
 use Rattle.forecast.specs.Meaning.Forecast.{BestSums, LeastSums, WorthOf}
 use Rattle.forecast.specs.Model.Forecast.{leastAt, forecastCard}
 use Rattle.forecast.specs.Model.Forecasting.{AnswersForecast}
-use Rattle.forecast.specs.declared.making.Forecasting.{Forecasting}
+use Rattle.forecast.specs.declared.answer.Forecasting.{Forecasting}
 
 -- ---- work memory
 

@@ -12,7 +12,7 @@ use Rattle.forced.specs.Meaning.Answer.{playNumber, playLength, playStates}
 use Rattle.forced.specs.Promises.ForcedMaker.{MakesForced}
 use Rattle.forced.specs.declared.answer.Forced.{Forced}
 use Rattle.forecast.specs.Promises.Forecast.{MakesForecast}
-use Rattle.forecast.specs.declared.making.Forecasting.{Forecasting}
+use Rattle.forecast.specs.declared.answer.Forecasting.{Forecasting}
 use Rattle.sheet.specs.Meaning.Grounds.{verdictNumber}
 use Rattle.report.specs.Promises.Report.{listedNumber, listedLength, Writes}
 use Rattle.report.specs.declared.Listed.{Listed}
