@@ -1,4 +1,3 @@
 -- Laws that belong to no one function.
 pub mod Answered
-pub mod Only
 pub mod Promise

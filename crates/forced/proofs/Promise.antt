@@ -34,7 +34,7 @@ use Rattle.forced.specs.Model.ForcedOfSheet.{forcedOf, forcedSize, heldN
 use Rattle.forced.specs.Laws.Shown.{shows}
 use Rattle.forced.specs.Promises.ForcedMaker.{forcedWork, ShowsPlay, Played, Unplayed, MakesForced}
 use Rattle.forced.specs.declared.answer.Forced.{Forced}
-use Rattle.forced.proofs.Only.{only-answer}
+use Rattle.forced.specs.Laws.Only.{only-answer}
 
 -- so many bytes, and never more than these
 length-is : (d : Decoded) → length (forcedOf d) ≡ forcedSize d

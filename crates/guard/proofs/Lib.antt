@@ -1,6 +1,4 @@
 -- Laws that belong to no one function.
 pub mod FaithfulTable
 pub mod Lent
-pub mod Representing
-pub mod GuardRows
 pub mod Promise

@@ -21,7 +21,7 @@ use Rattle.plan.specs.Laws.Solved.{sheet-horizon}
 use Rattle.plan.specs.Model.GuardOfSheet.{guardTableBy, statesBy, guardTableOf, statesOf}
 use Rattle.guard.specs.Promises.GuardMaker.{guardWork, Rows, MakesOver, MakesGuard}
 use Rattle.guard.proofs.FaithfulTable.{faithful}
-use Rattle.guard.proofs.GuardRows.{table-rows, only-rows, narrow-rows}
+use Rattle.guard.specs.Laws.GuardRows.{table-rows, only-rows, narrow-rows}
 
 -- a horizon that is found from the sheet keeps the bounds of sheets in bounds
 abbrev InBounds : (Decoded → ℕ) → Type 0

@@ -1,2 +1,3 @@
 -- The calls for other languages: what the makers promise there.
 pub mod Promises
+pub mod Laws

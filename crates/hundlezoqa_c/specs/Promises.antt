@@ -1,2 +1,3 @@
 -- What the public calls promise.
 pub mod Library
+pub mod SmallerLimit

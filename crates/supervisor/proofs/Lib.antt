@@ -1,5 +1,4 @@
 -- Laws that belong to no one function.
 pub mod Layouts
-pub mod Only
 pub mod TableSolved
 pub mod Promise

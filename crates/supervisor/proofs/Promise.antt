@@ -33,7 +33,7 @@ use Rattle.supervisor.specs.Laws.Bytes.{length-table}
 use Rattle.product.specs.Laws.Counts.{layout-inputs, layout-outputs}
 use Rattle.supervisor.proofs.TableSolved.{layout-head, solution-table}
 use Rattle.supervisor.specs.Laws.Permissive.{means}
-use Rattle.supervisor.proofs.Only.{only-table}
+use Rattle.supervisor.specs.Laws.Only.{only-table}
 use Rattle.solve.specs.Laws.Judging.{Only, judges-short, judges-made, makes, accepted-layout, written-front}
 use Rattle.solve.specs.declared.made.Made.{Made}
 use Rattle.solve.specs.declared.made.Made.the-variants.{Table, Refused}

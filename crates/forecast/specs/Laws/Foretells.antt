@@ -43,7 +43,7 @@ use Rattle.card.specs.declared.Entry.{Entry}
 use Rattle.forecast.specs.Meaning.Forecast.{KeptState, ExactAverage, WorthOf, MostEarned}
 use Rattle.forecast.specs.Model.Forecast.{leastAt, bestsOf, leastsOf, forecastCard}
 use Rattle.forecast.specs.Laws.Sums.{sum-earned, best-is, least-best, best-sum-most, least-sum-most}
-use Rattle.forecast.specs.Promises.Forecast.{saysOf, Foretells}
+use Rattle.forecast.specs.Promises.Forecast.{saysOf, ForetellsWithin, Foretells}
 
 -- ---- a kept state
 
@@ -152,7 +152,8 @@ same-averages d x y =
     ap₂ {C = Averages} (λ (p q : Float). record { best = p; least = q })
     (x .best-average .float ∙ sym (y .best-average .float)) (x .least-average .float ∙ sym (y .least-average .float))
 
-module _ (d : Decoded) (fits : stateCount d ≤ maxStates) {c e : Card} (x : Foretells d c) (y : Foretells d e) where
+module _ (d : Decoded) (fits : stateCount d ≤ maxStates) {limit : ℕ} {c e : Card}
+    (x : ForetellsWithin limit d c) (y : ForetellsWithin limit d e) where
   same-tuples : x .tuples ≡ y .tuples
   same-tuples = product-states-once d (x .tuples) (y .tuples) (x .numbered) (y .numbered)
 
@@ -188,7 +189,7 @@ module _ (d : Decoded) (fits : stateCount d ≤ maxStates) {c e : Card} (x : For
         by-test (isIn (droppedOf d) (numberOf d t))
         (λ b. same-kept (in-iff d fits t r .0 b)) (λ b. same-lost (out-iff d fits t r .0 b))
 
-  same-entry : (k : ℕ) → k < maxStates → getD (c .entries) k lostEntry ≡ getD (e .entries) k lostEntry
+  same-entry : (k : ℕ) → k < limit → getD (c .entries) k lostEntry ≡ getD (e .entries) k lostEntry
   same-entry k h =
       ap {B = Entry} (λ (p : Prospect). record { prospect = p })
       (same-prospect (saysOf c k) (saysOf e k)
@@ -197,8 +198,8 @@ module _ (d : Decoded) (fits : stateCount d ≤ maxStates) {c e : Card} (x : For
         | no l ↦ x .past k (omega arith) h ∙ sym (y .past k (omega (arith, same-count)) h)
       ]))
 
-  -- two cards of 512 entries that foretell the same are one
-  pub only-card : length (c .entries) ≡ maxStates → length (e .entries) ≡ maxStates → c ≡ e
+  -- two cards of so many entries that foretell the same are one
+  pub only-card : length (c .entries) ≡ limit → length (e .entries) ≡ limit → c ≡ e
   only-card long wide =
       ap₂ {C = Card} (λ (n : ℕ) (l : List Entry). record { count = n; entries = l }) same-count
       (ext-getD lostEntry (c .entries) (e .entries) (long ∙ sym wide) (λ k l. same-entry k (omega arith)))

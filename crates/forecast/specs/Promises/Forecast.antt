@@ -42,12 +42,13 @@ forecastWork = forecastWorkFor maxStates
 abbrev pub saysOf : Card → ℕ → Prospect
 saysOf card k = getD (card .entries) k lostEntry .prospect
 
-pub record Foretells (d : Decoded) (card : Card) : Type 0 where
+-- of a card for at most `limit` product states
+pub record ForetellsWithin (limit : ℕ) (d : Decoded) (card : Card) : Type 0 where
   -- the product states, as first met
   pub tuples : List (List ℕ)
   pub numbered : ProductStates d tuples
   pub count-is : card .count ≡ length tuples
-  pub few : card .count ≤ maxStates
+  pub few : card .count ≤ limit
   -- a state is lost exactly if some number of inputs cannot be survived from it
   pub lost : (k : ℕ) → k < card .count → (averagesIn (saysOf card k) ≡ none) ↔ Lost d (getD tuples k (firstTuple d))
   -- else it has averages, and they are its best and its least
@@ -55,7 +56,11 @@ pub record Foretells (d : Decoded) (card : Card) : Type 0 where
       → (a : Averages) × (averagesIn (saysOf card k) ≡ some a)
       × WorthOf d (d .horizon) t (bestAt d (d .horizon) t) (leastAt d (d .horizon) t) a
   -- entries past the count are lost
-  pub past : (k : ℕ) → card .count ≤ k → k < maxStates → averagesIn (saysOf card k) ≡ none
+  pub past : (k : ℕ) → card .count ≤ k → k < limit → averagesIn (saysOf card k) ≡ none
+
+-- for as many as there may be
+abbrev pub Foretells : Decoded → Card → Type 0
+Foretells = ForetellsWithin maxStates
 
 -- a refusal: no state, every entry lost
 pub record Unforetold (card : Card) : Type 0 where

@@ -38,7 +38,7 @@ use Rattle.plan.specs.Laws.Answered.{length-over}
 use Rattle.guard.specs.Meaning.Faithful.{Move, Chosen, begin, onward, MoveBy, GuardStates}
 use Rattle.plan.specs.Model.GuardOfSheet.{sheetGame, choicesOf, guardOf, guardCount, outputOf, nextOf, guardOver}
 use Rattle.guard.specs.Promises.GuardMaker.{Rows}
-use Rattle.guard.proofs.Representing.{tuplesOf, tuple-at, start-winning, choice-moves, move-is, move-winning, represents}
+use Rattle.guard.specs.Laws.Representing.{tuplesOf, tuple-at, start-winning, choice-moves, move-is, move-winning, represents}
 
 module _ (d : Decoded) (ok : SheetOk d) (fits : stateCount d ≤ maxStates) (realizable : Kept d (firstTuple d)) (h : ℕ) where
   start : isIn (droppedOf d) 0 ≡ true
@@ -200,19 +200,17 @@ module _ (d : Decoded) (ok : SheetOk d) (fits : stateCount d ≤ maxStates) (rea
         (λ k i hn hi. same-output k i hn hi) (λ k i hn hi. same-next k i hn hi) in
         (same-count, x .bytes ∙ entries ∙ rw same-count (sym (y .bytes)))
 
+  -- there are no more rows than product states
+  pub rows-few : {n : ℕ} {t : List ℕ} → Rows d h n t → n ≤ stateCount d
+  rows-few r = omega (arith, only-rows r table-rows .0, guard-fits d fits h start)
+
   -- ---- where there are at most 256 product states
 
   module _ (states : List (List ℕ)) (listed : ProductStates d states) (small : length states ≤ narrowMost) {n : ℕ} {t : List ℕ}
       (r : Rows d h n t) where
     -- the guard has no more, so its rows are narrow
     few : n ≤ narrowMost
-    few =
-        omega (
-          arith,
-          only-rows r table-rows .0,
-          guard-fits d fits h start,
-          states-counted d fits states listed,
-        )
+    few = omega (arith, rows-few r, states-counted d fits states listed)
 
     pub narrow-rows : t ≡ narrowTable (d .mode) (inputLines d) (d .outputs) h n (r .output) (r .next)
     narrow-rows =

@@ -1,0 +1,2 @@
+-- Theorems about all calls together.
+pub mod SmallerLimit
