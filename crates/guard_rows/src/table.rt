@@ -45,8 +45,8 @@ pub fn put_row(
     let mut rest = row;
     let mut i: usize = 0;
     while i < ins {
-        let output = (rest % Row::BASE) as u8;
-        rest /= Row::BASE;
+        let output = (rest % Row::OUTS) as u8;
+        rest /= Row::OUTS;
         let to = next_of(cells, ins, outs, k, i, output as usize);
         let next = numbers[to] - 1;
         let at = layout.entry_at(place, i);

@@ -6,6 +6,7 @@ ghost use Prim.Native.Nat.{_≤_};
 ghost use Rattle.records.specs.Meaning.Limits.{maxOutputs, maxOuts};
 ghost use Rattle.records.specs.Meaning.Lists.{tab};
 ghost use Rattle.values.specs.Model.Rank.{literalDigit, rankBy};
+ghost use Rattle.values.specs.Promises.Rank.{Ranked};
 
 // 1 if a literal holds of an output, 0 if not: its line's bit, turned over where off is preferred.
 // `off` is 0 for a literal below 8 and 1 from 8 on.
@@ -18,9 +19,9 @@ pub fn digit_of(literal: u8, o: usize) -> usize
 }
 
 // The rank of an output by the first `count` literals: their digits read as a binary number, the first highest.
-pub fn rank_of(literals: [u8; 3], count: usize, o: usize) -> usize
+pub fn rank_of(literals: [u8; Limits::OUTPUTS as usize], count: usize, o: usize) -> usize
     requires { ⌜ count ≤ maxOutputs ⌝ }
-    ensures { λ r. ⌜ r ≡ rankBy literals count o ⌝ }
+    ensures { λ r. ⌜ Ranked literals count o r ⌝ }
 {
     let mut rank: usize = 0;
     let mut j: usize = 0;
@@ -33,7 +34,7 @@ pub fn rank_of(literals: [u8; 3], count: usize, o: usize) -> usize
 }
 
 // The ranks of all outputs, found once for all choices.
-pub fn ranks_of(literals: [u8; 3], count: usize) -> [usize; Limits::OUTS]
+pub fn ranks_of(literals: [u8; Limits::OUTPUTS as usize], count: usize) -> [usize; Limits::OUTS]
     requires { ⌜ count ≤ maxOutputs ⌝ }
     ensures { λ r. ⌜ r ≡ tab maxOuts (rankBy literals count) ⌝ }
 {

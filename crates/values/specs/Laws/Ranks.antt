@@ -17,8 +17,9 @@ use Rattle.records.specs.Laws.Bits.{same-bits}
 use Rattle.records.specs.Meaning.Lists.{tab}
 use Rattle.records.specs.Laws.Lists.{length-tab, getD-tab}
 use Rattle.records.specs.Laws.Pigeonhole.{onto}
-use Rattle.values.specs.Meaning.Order.{literalHolds, Higher}
+use Rattle.values.specs.Meaning.Order.{literalHolds, Higher, NamesEach}
 use Rattle.values.specs.Model.Rank.{rankBy, rank}
+use Rattle.values.specs.Promises.Rank.{RanksFollow, Ranked}
 
 -- a truth as a digit
 abbrev digit : Bool → ℕ
@@ -143,3 +144,27 @@ module _ (literals : List ℕ) (n : ℕ) (size : length literals ≡ n)
   rank-onto =
       onto (2 ^ n) (rank literals) (λ o h. rw size (rank-low literals n o))
       (λ o q l h e. absurd (omega (arith, rank-injective o q (omega arith) h e)))
+
+-- ---- what a rank promises
+
+-- the lines in their order, all on
+in-order : (n : ℕ) → n ≤ 8 → NamesEach (tab n (λ j. j))
+in-order n few =
+    record {
+      line = λ j h. let k : j < n = rw length-tab at h in rw length-tab (omega (arith, at j k));
+      once = λ i j l h e. let k : j < n = rw length-tab at h in omega (arith, at i (omega arith), at j k, e);
+    }
+  where
+    at : (j : ℕ) → j < n → getD (tab n (λ j. j)) j 0 % 8 ≡ j
+    at j h = rw (getD-tab n (λ j. j) j 0 h) (omega arith)
+
+ranks-follow : RanksFollow rank
+ranks-follow =
+    record {
+      apart = λ literals each. rank-injective literals (length literals) refl (each .line) (each .once);
+      named = in-order;
+      order = rank-order;
+    }
+
+pub ranked : (literals : List ℕ) (count o r : ℕ) → r ≡ rankBy literals count o → Ranked literals count o r
+ranked literals count o r e = record { found = e; listed = e ∙ sym (rank-front literals count o); follows = ranks-follow }

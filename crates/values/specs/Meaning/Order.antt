@@ -18,3 +18,8 @@ pub record Higher (literals : List ℕ) (o q : ℕ) : Type 0 where
   pub alike : (j : ℕ) → j < at → literalHolds (getD literals j 0) o ≡ literalHolds (getD literals j 0) q
   pub above : literalHolds (getD literals at 0) o ≡ true
   pub below : literalHolds (getD literals at 0) q ≡ false
+
+-- a list of n literals that names each of n lines once, on or off: n is up to 8, as many lines as a literal can name
+pub record NamesEach (literals : List ℕ) : Type 0 where
+  pub line : (j : ℕ) → j < length literals → getD literals j 0 % 8 < length literals
+  pub once : (i j : ℕ) → i < j → j < length literals → getD literals i 0 % 8 ≡ getD literals j 0 % 8 → ⊥

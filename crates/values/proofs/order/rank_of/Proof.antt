@@ -5,6 +5,7 @@ use native.Mathlib.Omega.{arith}
 use borrow.Author.Needs.{needs}
 use Rattle.records.specs.Meaning.Limits.{maxOuts}
 use Rattle.values.specs.Model.Rank.{rankBy}
+use Rattle.values.specs.Laws.Ranks.{ranked}
 use Rattle.values.proofs.Ranking.{rank-none, rank-more, rank-small, digit-small}
 use Rattle.values.proofs.order.rank_of.Statement.{statement}
 use Rattle.values.proofs.order.rank_of.Tie as tie
@@ -48,7 +49,8 @@ loop-again : tie.Need-loop-again Inv-loop μ-loop
 loop-again c = (omega arith, rw rank-more (omega (arith, turn c .loop .inv .1, c .digit-of .ensures)))
 
 returns : tie.Need-returns Inv-loop μ-loop
-returns c = let e : c .before .loop .j ≡ c .before .before .args .count = omega arith in c .before .loop .inv .1 ∙ rw e
+returns c =
+    let e : c .before .loop .j ≡ c .before .before .args .count = omega arith in ranked _ _ _ _ (c .before .loop .inv .1 ∙ rw e)
 
 pub rank-of-spec : {M : Type 1} → statement M
 rank-of-spec =

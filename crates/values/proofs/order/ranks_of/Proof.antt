@@ -35,7 +35,7 @@ loop-less : tie.Need-loop-less Inv-loop μ-loop
 loop-less c = omega arith
 
 loop-again : tie.Need-loop-again Inv-loop μ-loop
-loop-again c = (omega arith, put-next _ _ _ (c .before .before .loop .inv .1) (c .rank-of .ensures))
+loop-again c = (omega arith, put-next _ _ _ (c .before .before .loop .inv .1) (c .rank-of .ensures .found))
 
 returns : tie.Need-returns Inv-loop μ-loop
 returns c = let e : c .before .loop .o ≡ maxOuts = omega arith in
