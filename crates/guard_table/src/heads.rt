@@ -1,5 +1,8 @@
 // The head of a guard table, and the headers of its records.
+use crate::kind::RowKind;
 use crate::layout::Layout;
+use crate::part::Part;
+use crate::part::part_at;
 use records::cursor::put_header;
 use records::numbers::put_u16;
 use records::numbers::u16_at;
@@ -8,19 +11,38 @@ ghost use Prim.Native.Nat.{_+_, _<_, _≤_};
 ghost use lib.ListN.{length};
 ghost use lib.Seq.{sets};
 ghost use Rattle.records.specs.Meaning.Records.{header};
-ghost use Rattle.guard_table.specs.Meaning.GuardTable.{headLength, rowSize, rowAt, headerIs, guardHead};
+ghost use Rattle.guard_table.specs.Meaning.GuardTable.{headKind, headSize, headLength, rowSize, rowAt, headerIs, guardHead};
 ghost use Rattle.guard_table.specs.Meaning.RowKind.{kindNumber};
 ghost use Rattle.guard_table.specs.Model.Inside.{RowInside};
 
-// Whether a record's header has this size and this kind.
-pub fn header_is(t: &[u8], at: usize, size: u16, kind: u16) -> bool
+// Whether the slice begins with the header of a head.
+pub fn head_is(t: &[u8]) -> bool
+    requires { ⌜ 3 < length (now t) ⌝ }
+    ensures { λ r. ⌜ r ≡ headerIs (now (t .entry)) 0 headSize headKind ⌝ }
+{
+    if u16_at(t, 0) != Layout::HEAD_SIZE {
+        return false;
+    }
+    match part_at(t, 0) {
+        Part::Head => true,
+        Part::Row(_) => false,
+        Part::Other => false,
+    }
+}
+
+// Whether a row's header, of this size and this kind, stands at an index.
+pub fn row_is(t: &[u8], at: usize, size: u16, kind: RowKind) -> bool
     requires { ⌜ at + 3 < length (now t) ⌝ }
-    ensures { λ r. ⌜ r ≡ headerIs (now (t .entry)) at size kind ⌝ }
+    ensures { λ r. ⌜ r ≡ headerIs (now (t .entry)) at size (kindNumber kind) ⌝ }
 {
     if u16_at(t, at) != size {
         return false;
     }
-    u16_at(t, at + 2) == kind
+    match part_at(t, at) {
+        Part::Row(found) => found.same(kind),
+        Part::Head => false,
+        Part::Other => false,
+    }
 }
 
 // Writes the head, at the start of the result.

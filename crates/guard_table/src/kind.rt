@@ -1,9 +1,11 @@
 // The two kinds of rows, which differ in how an entry's next state is written, and the kind that a table shows.
 use crate::layout::Layout;
+use crate::part::Part;
+use crate::part::part_at;
 use records::limits::Limits;
-use records::numbers::u16_at;
 ghost use mathlib.Core.Path.{_≡_};
 ghost use Prim.Native.Nat.{_≤_};
+ghost use lib.Dec.{eqb};
 ghost use lib.ListN.{length};
 ghost use Rattle.guard_table.specs.Meaning.GuardTable.{shownLength, showsKind, kindOf};
 ghost use Rattle.guard_table.specs.Meaning.RowKind.{kindNumber, statesMost, kindFor, entryWidth};
@@ -44,6 +46,22 @@ impl RowKind {
         }
     }
 
+    // Whether another kind is this one.
+    pub fn same(self, other: RowKind) -> bool
+        ensures { λ r. ⌜ r ≡ eqb (kindNumber self) (kindNumber other) ⌝ }
+    {
+        match self {
+            RowKind::Narrow => match other {
+                RowKind::Narrow => true,
+                RowKind::Wide => false,
+            },
+            RowKind::Wide => match other {
+                RowKind::Narrow => false,
+                RowKind::Wide => true,
+            },
+        }
+    }
+
     // How many states a table with such rows may have.
     pub fn states(self) -> usize
         ensures { λ r. ⌜ r ≡ statesMost self ⌝ }
@@ -72,8 +90,11 @@ pub fn shows_kind(table: &[u8]) -> bool
     if table.len() < Layout::SHOWN {
         return false;
     }
-    let kind = u16_at(table, Layout::FIRST_KIND);
-    kind == RowKind::NARROW || kind == RowKind::WIDE
+    match part_at(table, Layout::HEAD_LENGTH) {
+        Part::Row(_) => true,
+        Part::Head => false,
+        Part::Other => false,
+    }
 }
 
 // That kind.
@@ -81,8 +102,9 @@ pub fn kind_of(table: &[u8]) -> RowKind
     requires { ⌜ shownLength ≤ length (now table) ⌝ }
     ensures { λ r. ⌜ r ≡ kindOf (now (table .entry)) ⌝ }
 {
-    if u16_at(table, Layout::FIRST_KIND) == RowKind::WIDE {
-        return RowKind::Wide;
+    match part_at(table, Layout::HEAD_LENGTH) {
+        Part::Row(kind) => kind,
+        Part::Head => RowKind::Narrow,
+        Part::Other => RowKind::Narrow,
     }
-    RowKind::Narrow
 }

@@ -36,9 +36,7 @@ impl Layout {
 
     pub const COUNT: usize = 8;
 
-    // Where the first row's kind stands, and the bytes of a table that shows it.
-    pub const FIRST_KIND: usize = Layout::HEAD_LENGTH + 2;
-
+    // The bytes of a table that shows its first row's kind.
     pub const SHOWN: usize = Layout::HEAD_LENGTH + Layout::HEADER;
 
     // No entry is wider, and no table is longer: all states, with all inputs.

@@ -5,3 +5,4 @@ pub mod heads;
 pub mod kind;
 pub mod layout;
 pub mod loadable;
+pub mod part;

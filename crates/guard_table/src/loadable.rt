@@ -1,7 +1,8 @@
 // Which slices are guard tables that a board may load.
 use crate::entry::entry_in;
 use crate::entry::entry_ok;
-use crate::heads::header_is;
+use crate::heads::head_is;
+use crate::heads::row_is;
 use crate::kind::kind_of;
 use crate::kind::shows_kind;
 use crate::layout::Layout;
@@ -51,7 +52,7 @@ fn head_ok(t: &[u8]) -> bool
     if !shows_kind(t) {
         return false;
     }
-    if header_is(t, 0, Layout::HEAD_SIZE, Layout::HEAD_KIND) {
+    if head_is(t) {
         let layout = Layout {
             inputs: t[Layout::INPUTS],
             kind: kind_of(t),
@@ -104,7 +105,7 @@ fn row_ok(t: &[u8], inputs: u8, outputs: u8, count: usize, place: usize) -> bool
     let layout = Layout { inputs, kind };
     let size = layout.row_size();
     let at = layout.row_at(place);
-    if header_is(t, at, size as u16, kind.number()) {
+    if row_is(t, at, size as u16, kind) {
         return entries_ok(t, inputs, outputs, count, place);
     }
     false

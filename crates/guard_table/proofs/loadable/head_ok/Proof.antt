@@ -41,8 +41,8 @@ returns : tie.Need-returns
 unfolding tableHeadOk
 returns c = simp (said-no (c .before .shows-kind .ensures) (c .if1 .taken))
 
-header-is-requires : tie.Need-header-is-requires
-header-is-requires c κs = omega (arith, long c)
+head-is-requires : tie.Need-head-is-requires
+head-is-requires c κs = omega (arith, long c)
 
 shared-slice-read-fields-ok : tie.Need-shared-slice-read-fields-ok
 shared-slice-read-fields-ok c = omega (arith, long (shown (c .before)))
@@ -71,12 +71,12 @@ returns-2 c =
     let at = c .before in
     let k = kinded at in
     let d = headed k in
-    simp (shows (shown d), said (d .before .header-is .ensures) (d .if2 .taken), ← at .u16-at .ensures, ← k .kind-of .ensures)
+    simp (shows (shown d), said (d .before .head-is .ensures) (d .if2 .taken), ← at .u16-at .ensures, ← k .kind-of .ensures)
     (c .fields-ok .ensures)
 
 returns-3 : tie.Need-returns-3
 unfolding tableHeadOk
-returns-3 c = simp (shows (c .before .before), said (c .before .header-is .ensures) (c .if2 .left))
+returns-3 c = simp (shows (c .before .before), said (c .before .head-is .ensures) (c .if2 .left))
 
 pub head-ok-spec : {M : Type 1} → statement M
 head-ok-spec =
@@ -84,7 +84,7 @@ head-ok-spec =
     (tie.spec
     shows-kind-requires
     returns
-    header-is-requires
+    head-is-requires
     shared-slice-read-fields-ok
     kind-of-requires
     shared-slice-read-fields-ok-2

@@ -28,21 +28,20 @@ inside : (c : tie.Start) → RowInside (now (c .args .t)) (kindOf (now (c .args 
 inside c = sized-row (c .pre .0) (c .pre .1 .1)
 
 -- a header that was tested by the kind that was found
-header-tested : (t : List ℕ) (inputs place : ℕ) {kind : RowKind} → kind ≡ kindOf t → {at size number : ℕ} → at ≡ rowAt kind inputs place
-    → size ≡ rowSize kind inputs → number ≡ kindNumber kind → {f : Bool} → headerIs t at size number ≡ f
+header-tested : (t : List ℕ) (inputs place : ℕ) {kind : RowKind} → kind ≡ kindOf t → {at size : ℕ} → at ≡ rowAt kind inputs place
+    → size ≡ rowSize kind inputs → {f : Bool} → headerIs t at size (kindNumber kind) ≡ f
     → headerIs t (rowAt (kindOf t) inputs place) (rowSize (kindOf t) inputs) (kindNumber (kindOf t)) ≡ f
-header-tested t inputs place k a s n {f} e =
-    ap (λ (x : RowKind). headerIs t (rowAt x inputs place) (rowSize x inputs) (kindNumber x)) (sym k) ∙ rw (← a, ← s, ← n) e
+header-tested t inputs place k a s {f} e =
+    ap (λ (x : RowKind). headerIs t (rowAt x inputs place) (rowSize x inputs) (kindNumber x)) (sym k) ∙ rw (← a, ← s) e
 
-headed : (c : tie.After-header-is) (f : Bool) → c .header-is .result ≡ f →
-    let t = now (start (c .before .before) .args .t) in
-    let a = start (c .before .before) .args in
+headed : (c : tie.After-row-is) (f : Bool) → c .row-is .result ≡ f →
+    let t = now (start (c .before) .args .t) in
+    let a = start (c .before) .args in
     headerIs t (rowAt (kindOf t) (a .inputs) (a .place)) (rowSize (kindOf t) (a .inputs)) (kindNumber (kindOf t)) ≡ f
 headed c f e =
-    let d = c .before in
-    let at = d .before in
-    header-tested _ _ _ (kinded at .kind-of .ensures) (at .row-at .ensures .0) (at .before .row-size .ensures .0) (d .number .ensures)
-    (said (c .header-is .ensures) e)
+    let at = c .before in
+    header-tested _ _ _ (kinded at .kind-of .ensures) (at .row-at .ensures .0) (at .before .row-size .ensures .0)
+    (said (c .row-is .ensures) e)
 
 kind-of-requires : tie.Need-kind-of-requires
 kind-of-requires c κs = row-shows (inside (c .before))
@@ -53,15 +52,12 @@ row-size-requires c κs = c .before .before .pre .0 .inputs-most
 row-at-requires : tie.Need-row-at-requires
 row-at-requires c κs = let s = c .before .before .before in omega (arith, s .pre .0 .inputs-most, s .pre .0 .count-most, s .pre .1 .1)
 
-cast-header-is : tie.Need-cast-header-is
-cast-header-is c = omega (arith, c .before .row-size .ensures .1)
+cast-row-is : tie.Need-cast-row-is
+cast-row-is c = omega (arith, c .before .row-size .ensures .1)
 
-number-requires : tie.Need-number-requires
-number-requires c κs = search needs
-
-header-is-requires : tie.Need-header-is-requires
-header-is-requires c κs = let at = c .before in
-    omega (arith, header-inside _ (rw (← kinded at .kind-of .ensures) at (inside (start at))), at .row-at .ensures .0)
+row-is-requires : tie.Need-row-is-requires
+row-is-requires c κs =
+    omega (arith, header-inside _ (rw (← kinded c .kind-of .ensures) at (inside (start c))), c .row-at .ensures .0)
 
 entries-ok-requires : tie.Need-entries-ok-requires
 entries-ok-requires c κs = search needs
@@ -81,9 +77,8 @@ row-ok-spec =
     kind-of-requires
     row-size-requires
     row-at-requires
-    cast-header-is
-    number-requires
-    header-is-requires
+    cast-row-is
+    row-is-requires
     entries-ok-requires
     returns
     returns-2)
