@@ -3,10 +3,10 @@
 use mathlib.Core.Path.{refl}
 use mathlib.Core.List.{List, [], _∷_}
 use Rattle.sheet.specs.Meaning.Decoded.{encode}
-use Rattle.notebook.specs.Model.Sheets.{decodedA, sheetA, sheet3, sheet4, sheet5, sheet6, sheet7, sheet9, sheet10, idle}
+use Rattle.notebook.specs.Model.Sheets.{decodedA, sheetA, sheet3, sheet4, sheet5, sheet6, sheet7, sheet8, sheet9, sheet10, idle}
 use Rattle.notebook.specs.Model.Sheets.{limitSheet, strictSheet, letterSheet, soonSheet, bothSheet}
 use Rattle.notebook.specs.Model.Row.{Row, is, are, ordered, AllHold, all-hold}
-use Rattle.notebook.specs.Model.Figures.{supervisorNumber, guardAnswer, forecastNumber, bestSums, leastSums, cardFront, forcedNumber, play, supervisor, guard, states, scores, outputs, deviationsShown}
+use Rattle.notebook.specs.Model.Figures.{supervisorNumber, guardAnswer, forecastNumber, bestSums, leastSums, cardFront, forcedNumber, play, supervisor, guard, states, scores, literals, outputs, deviationsShown}
 use Rattle.notebook.specs.Model.Figures.{tupleAfter, formerAfter, tuple, letter, whole}
 use Rattle.notebook.specs.Laws.Opened.{sheets, supervisors, guards, forecasts, plays, runs, boards}
 
@@ -32,8 +32,8 @@ rows =
     ∷ 3 ∷ 0 ∷ 18 ∷ 0 ∷ 1 ∷ 1 ∷ 1
     ∷ [])
     -- P2: A, state 0: input 0 scores off 12, on 3; input 1 off 6, on 9
-    ∷ are (scores sheetA 0 0) (12 ∷ 3 ∷ [])
-    ∷ are (scores sheetA 0 1) (6 ∷ 9 ∷ [])
+    ∷ are (scores sheetA 0) (12 ∷ 3 ∷ [])
+    ∷ are (scores sheetA 1) (6 ∷ 9 ∷ [])
     -- A's forecast over its one step: in 0 and 1 at best 3 at each input and at least 0, in 2 and 3 only off: 3 at input 0, 0 at input 1;
     -- averages 3.0 and 0.0, then 1.5 both
     ∷ is (forecastNumber sheetA) 0
@@ -86,7 +86,7 @@ rows =
     -- P6: never on twice; 4 for on at input 0, 3 for on at input 1. Start, input 1: on at H = 0
     ∷ is (supervisorNumber (sheet6 0)) 0
     ∷ is (guardAnswer (sheet6 0)) 0
-    ∷ are (scores (sheet6 0) 0 1) (0 ∷ 3 ∷ [])
+    ∷ are (scores (sheet6 0) 1) (0 ∷ 3 ∷ [])
     ∷ are (guard (sheet6 0))
     (6 ∷ 0 ∷ 16 ∷ 0 ∷ 0 ∷ 1 ∷ 1 ∷ 0 ∷ 3 ∷ 0
     ∷ 4 ∷ 0 ∷ 17 ∷ 0 ∷ 1 ∷ 1 ∷ 1 ∷ 2
@@ -98,7 +98,7 @@ rows =
     -- off at H = 1 (7 against 6)
     ∷ is (supervisorNumber (sheet6 1)) 0
     ∷ is (guardAnswer (sheet6 1)) 0
-    ∷ are (scores (sheet6 1) 0 1) (7 ∷ 6 ∷ [])
+    ∷ are (scores (sheet6 1) 1) (7 ∷ 6 ∷ [])
     ∷ are (guard (sheet6 1))
     (6 ∷ 0 ∷ 16 ∷ 0 ∷ 0 ∷ 1 ∷ 1 ∷ 1 ∷ 2 ∷ 0
     ∷ 4 ∷ 0 ∷ 17 ∷ 0 ∷ 1 ∷ 1 ∷ 0 ∷ 0
@@ -149,8 +149,13 @@ rows =
     ∷ 3 ∷ 0 ∷ 18 ∷ 0 ∷ 1 ∷ 3 ∷ 3
     ∷ 3 ∷ 0 ∷ 18 ∷ 0 ∷ 1 ∷ 1 ∷ 1
     ∷ [])
-    -- P8: two outputs, literals 0, 9: order 1, 3, 0, 2
-    ∷ ordered (0 ∷ 9 ∷ []) (1 ∷ 3 ∷ 0 ∷ 2 ∷ [])
+    -- P8: two outputs, literals 0, 9: order 1, 3, 0, 2. Head alone, so all outputs score the same, and the guard gives the highest
+    ∷ are sheet8 (7 ∷ 0 ∷ 1 ∷ 0 ∷ 0 ∷ 0 ∷ 2 ∷ 0 ∷ 0 ∷ 0 ∷ 9 ∷ [])
+    ∷ is (supervisorNumber sheet8) 0
+    ∷ is (guardAnswer sheet8) 0
+    ∷ ordered (literals sheet8) (1 ∷ 3 ∷ 0 ∷ 2 ∷ [])
+    ∷ are (scores sheet8 0) (0 ∷ 0 ∷ 0 ∷ 0 ∷ [])
+    ∷ are (outputs (guard sheet8) (0 ∷ [])) (1 ∷ [])
     -- P9: inputs 4: H 6 passes, 7 gives 6. Inputs 0: 24 passes, 25 gives 6
     ∷ is (supervisorNumber (sheet9 4 6)) 0
     ∷ is (guardAnswer (sheet9 4 6)) 0

@@ -60,7 +60,7 @@ use Rattle.card.specs.Model.Card.{averagesOf, cardEntry, cardEntryAt, lostEntri
 use Rattle.card_words.specs.Meaning.CardWords.{entryWords, cardWords}
 use Rattle.forecast.specs.Model.Forecast.{bestsOf, leastsOf, forecastCard}
 use lib.Ieee as float
-use Rattle.notebook.specs.Model.Figures.{cardFront, tupleBy, scoresOf, outputsFrom, boardFrom, outputs, deviationsShown}
+use Rattle.notebook.specs.Model.Figures.{cardFront, tupleBy, scoresAt, outputsFrom, boardFrom, outputs, deviationsShown}
 
 -- lists and numbers
 unfoldable pub lists : Unit {0}
@@ -86,7 +86,7 @@ supervisors = tt
 
 -- rewards, values, choices and the guard table
 unfoldable pub guards : Unit {0}
-unfolding supervisors scoresOf line equalLines softReward gainsOf matchReward bonusesOf sheetGame before against leader choose
+unfolding supervisors line equalLines softReward gainsOf matchReward bonusesOf sheetGame before against leader choose
     literalHolds rankBy rank
     mayGive values.cellNext earns scoreOf worth valueRow valuesOf choiceOf choices choicesOf chosen follows guardStates guardNumber
     guardOf guardCount outputOf guard.nextOf kindFor guardRow tableIn guardOver guardTableBy
@@ -94,7 +94,7 @@ guards = tt
 
 -- sums, averages and the forecast card
 unfoldable pub forecasts : Unit {0}
-unfolding guards openingNumber rewardBy reward keeps keptAfter may value bottom valueBy bestsOf leastsOf averageOf float.round float.toBits averagesOf cardEntry cardEntryAt
+unfolding guards openingNumber rewardBy reward keeps keptAfter may value scoresAt bottom valueBy bestsOf leastsOf averageOf float.round float.toBits averagesOf cardEntry cardEntryAt
     lostEntries lostCard cardOf forecastCard entryWords cardWords cardFront
 forecasts = tt
 

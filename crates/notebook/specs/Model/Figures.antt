@@ -6,11 +6,10 @@ use Prim.Native.Nat.{ℕ, _+_, _*_, _^_}
 use lib.ListN.{take}
 use Rattle.records.specs.Meaning.Lists.{tab}
 use Rattle.guard_table.specs.Model.Inside.{tableMost}
-use Rattle.sheet.specs.Meaning.Decoded.{Decoded}
-use Rattle.product.specs.Meaning.Step.{inputsOf, outputsOf, limitLetter, moved, broken, advance, firstTuple}
+use Rattle.sheet.specs.Meaning.Decoded.{Decoded, inputLines}
+use Rattle.product.specs.Meaning.Step.{outputsOf, limitLetter, moved, broken, advance, reward, firstTuple}
 use Rattle.product.specs.Laws.Tuples.{shown}
 use Rattle.product.specs.Model.ProductNumbering.{stateCount}
-use Rattle.values.specs.Model.Values.{scoreOf}
 use Rattle.board.specs.Meaning.Board.{emptyBoard}
 use Rattle.board.specs.Meaning.Load.{loadOn}
 use Rattle.board.specs.Meaning.BoardStep.{stepOn, stepOutput}
@@ -21,7 +20,8 @@ use Rattle.solve.specs.Model.Opening.{openingNumber}
 use Rattle.forced.specs.Model.ForcedOfSheet.{forcedOf, forcedSize, heldNumber}
 use Rattle.card_words.specs.Meaning.CardWords.{cardWords}
 use Rattle.forecast.specs.Model.Forecast.{bestsOf, leastsOf, forecastCard}
-use Rattle.plan.specs.Model.GuardOfSheet.{sheetGame, valuesOf, guardTableOf}
+use Rattle.plan.specs.Model.GuardOfSheet.{guardTableOf}
+use Rattle.plan.specs.Model.Playing.{bestAt}
 
 -- ---- the makers
 
@@ -101,12 +101,18 @@ whole sheet t i o = cond (broken (sheetOf sheet) t i o) 0 1
 abbrev pub states : List ℕ → ℕ
 states sheet = stateCount (sheetOf sheet)
 
--- the scores of the outputs at product state k and input i, over the sheet's horizon
-unfoldable pub scoresOf : Decoded → ℕ → ℕ → List ℕ
-scoresOf d k i = tab (outputsOf d) (scoreOf (sheetGame d) (valuesOf d (d .horizon)) (inputsOf d ^ d .horizon) k i)
+-- the scores of the outputs at a tuple and an input, by document 01: reward × 2^(inputs × H) + Best(s', H). `bestAt` is Best, as the
+-- forecast promises (`best-sums`)
+unfoldable pub scoresAt : Decoded → List ℕ → ℕ → List ℕ
+scoresAt d t i = tab (outputsOf d) (λ o. reward d t i o * 2 ^ (inputLines d * d .horizon) + bestAt d (d .horizon) (advance d t i o))
 
-abbrev pub scores : List ℕ → ℕ → ℕ → List ℕ
-scores sheet k i = scoresOf (sheetOf sheet) k i
+-- at the start
+abbrev pub scores : List ℕ → ℕ → List ℕ
+scores sheet i = scoresAt (sheetOf sheet) (firstTuple (sheetOf sheet)) i
+
+-- the literals that the reader finds in the head
+abbrev pub literals : List ℕ → List ℕ
+literals sheet = sheetOf sheet .literals
 
 -- ---- a run of the board
 

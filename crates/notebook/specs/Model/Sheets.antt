@@ -102,6 +102,12 @@ abbrev pub sheet6 : ℕ → List ℕ
 sheet6 horizon =
     encode (oneOutput 1 horizon (neverTwice ∷ wish 4 (0 ∷ 0 ∷ 1 ∷ 0 ∷ []) ∷ wish 3 (0 ∷ 0 ∷ 0 ∷ 1 ∷ []) ∷ []))
 
+-- head alone, two outputs: line 0 on is preferred, then line 1 off
+abbrev pub sheet8 : List ℕ
+sheet8 =
+    encode
+    (record { mode = 0; site = 0; outputs = 2; horizon = 0; matching = 0; literals = 0 ∷ 9 ∷ []; monitors = [] })
+
 -- head alone
 abbrev pub sheet9 : ℕ → ℕ → List ℕ
 sheet9 inputs horizon = encode (oneOutput inputs horizon [])
