@@ -16,7 +16,7 @@ use Rattle.supervisor.specs.Promises.SupervisorMaker.{supervisorWork, MakesSupe
 use Rattle.solve.specs.declared.made.Made.{Made}
 use Rattle.plan.specs.Model.GuardOfSheet.{guardTableOf, statesOf}
 use Rattle.guard.specs.Promises.GuardMaker.{guardWork, MakesGuard}
-use Rattle.notebook.specs.Model.Counters.{sheetBytes, length-sheet, Answered}
+use Rattle.notebook.specs.Model.Counters.{Answered}
 
 -- a new array's length
 pub zeros-length : (n : ℕ) → length (zeros n) ≡ n
@@ -44,13 +44,11 @@ pub record Written (size : ℕ) (array s : List ℕ) : Type 0 where
   pub inside : size ≤ length array
   pub part : take size array ≡ s
 
-pub written : (n m : ℕ) {array : List ℕ} {size : ℕ} → n ≤ 32 → m ≤ 32
-    → (array ≡ sets (zeros 512) 0 (sheetBytes n m)) × (size ≡ length (sheetBytes n m)) → Written size array (sheetBytes n m)
-written n m {array} h k e =
-    let long : length array ≡ 512 = ap length (e .0) ∙ length-sets (zeros 512) 0 (sheetBytes n m) ∙ zeros-length 512 in
+pub written : (s : List ℕ) {array : List ℕ} {size : ℕ} → length s ≤ 512 → (array ≡ sets (zeros 512) 0 s) × (size ≡ length s)
+    → Written size array s
+written s {array} h e =
+    let long : length array ≡ 512 = ap length (e .0) ∙ length-sets (zeros 512) 0 s ∙ zeros-length 512 in
     record {
-      inside = omega (arith, e .1, length-sheet n m);
-      part =
-          rw (e .0, e .1, sets-front (zeros 512) (sheetBytes n m) (omega (arith, zeros-length 512, length-sheet n m)))
-          (take-append-seam (sheetBytes n m) _);
+      inside = omega (arith, e .1);
+      part = rw (e .0, e .1, sets-front (zeros 512) s (omega (arith, zeros-length 512))) (take-append-seam s _);
     }

@@ -3,7 +3,8 @@ ghost use mathlib.Core.Path.{_≡_};
 ghost use Prim.Native.Nat.{_+_, _*_, _≤_, _<_};
 ghost use lib.ListN.{length};
 ghost use lib.Seq.{sets};
-ghost use Rattle.notebook.specs.Model.Counters.{countOn, headByte, frontByte, counterByte, sheetByte, sheetBytes};
+ghost use Rattle.sheet.specs.Meaning.Decoded.{encode};
+ghost use Rattle.notebook.specs.Model.Counters.{countOn, counters, headByte, frontByte, counterByte, sheetByte};
 
 // The state of a counter of n states, in state q, after an output: one further if the line is on. `power` is 2 to the line's
 // number.
@@ -78,7 +79,7 @@ fn sheet_byte(n: usize, m: usize, k: usize) -> u8
 // Puts that sheet at the start of a slice, and answers its length.
 pub fn put_sheet(sheet: &mut [u8], n: usize, m: usize) -> usize
     requires { ⌜ (n ≤ 32) × ((m ≤ 32) × (347 ≤ length (now sheet))) ⌝ }
-    ensures { λ r. ⌜ (now (sheet .exit) ≡ sets (now (sheet .entry)) 0 (sheetBytes n m)) × (r ≡ length (sheetBytes n m)) ⌝ }
+    ensures { λ r. ⌜ (now (sheet .exit) ≡ sets (now (sheet .entry)) 0 (encode (counters n m))) × (r ≡ length (encode (counters n m))) ⌝ }
 {
     let size = 27 + n * 5 + m * 5;
     let mut k: usize = 0;

@@ -1,4 +1,5 @@
-// Counters of 32 and 8 states moved by different output lines pass; 32 and 9 are refused 7 (document 01's notebook).
+// Counters of 32 and 8, 9 and 16 states moved by different output lines pass; 32 and 17 are refused 7 (document 01's notebook, with
+// document 02's N6).
 mod counters;
 mod makers;
 

@@ -5,10 +5,11 @@ use guard_table::layout::Layout;
 use solve::made::Made;
 use supervisor::make::Supervisor;
 ghost use Prim.Native.Nat.{_≤_};
+ghost use Rattle.sheet.specs.Meaning.Decoded.{encode};
 ghost use Rattle.product.specs.Model.ProductNumbering.{stateCount};
 ghost use Rattle.supervisor.specs.Model.SupervisorOfSheet.{supervisorTable};
 ghost use Rattle.plan.specs.Model.GuardOfSheet.{guardTableOf, statesOf};
-ghost use Rattle.notebook.specs.Model.Counters.{sheetBytes, Answered};
+ghost use Rattle.notebook.specs.Model.Counters.{counters, Answered};
 ghost use Rattle.notebook.specs.Model.Figures.{room};
 
 fn supervisor_of(sheet: &[u8]) -> Made
@@ -52,7 +53,7 @@ fn guard_of(sheet: &[u8]) -> Made
 // What the supervisor's maker answers to counters of n and m states.
 pub fn counters_supervisor(n: usize, m: usize) -> Made
     requires { ⌜ (n ≤ 32) × (m ≤ 32) ⌝ }
-    ensures { λ r. ⌜ Answered supervisorTable stateCount (sheetBytes n m) room r ⌝ }
+    ensures { λ r. ⌜ Answered supervisorTable stateCount (encode (counters n m)) room r ⌝ }
 {
     let mut sheet = [0u8; 512];
     let size = put_sheet(&mut sheet, n, m);
@@ -62,7 +63,7 @@ pub fn counters_supervisor(n: usize, m: usize) -> Made
 // And the guard's.
 pub fn counters_guard(n: usize, m: usize) -> Made
     requires { ⌜ (n ≤ 32) × (m ≤ 32) ⌝ }
-    ensures { λ r. ⌜ Answered guardTableOf statesOf (sheetBytes n m) room r ⌝ }
+    ensures { λ r. ⌜ Answered guardTableOf statesOf (encode (counters n m)) room r ⌝ }
 {
     let mut sheet = [0u8; 512];
     let size = put_sheet(&mut sheet, n, m);

@@ -1,19 +1,15 @@
 -- The counters of document 01's notebook: two automata that never break, moved by different output lines.
 -- Assumes nothing.
-use mathlib.Core.Path.{_≡_, refl}
+use mathlib.Core.Path.{_≡_}
 use mathlib.Core.Bool.{true, cond}
 use mathlib.Core.List.{List, [], _∷_}
 use Prim.Native.Nat.{ℕ, _+_, _-_, _*_, _/_, _%_}
 use lib.Dec.{eqb, ltb}
-use lib.ListN.{length}
 use Rattle.records.specs.Meaning.Lists.{tab}
-use Rattle.records.specs.Laws.Lists.{length-tab}
-use Rattle.sheet.specs.Meaning.Decoded.{Automaton, Decoded, encode}
-use Rattle.product.specs.Laws.ProductNumbering.{same-equal}
+use Rattle.sheet.specs.Meaning.Decoded.{Automaton, Decoded}
 use Rattle.solve.specs.Model.Making.{sheetOf, makingNumber}
 use Rattle.solve.specs.Meaning.Made.{madeNumber, madeStates}
 use Rattle.solve.specs.declared.made.Made.{Made}
-use Rattle.notebook.specs.Laws.Opened.{sheets}
 
 -- a counter of n states in state q after output o: one further if the line is on, and from the last to the first; `power` is
 -- 2 to the line's number
@@ -62,19 +58,6 @@ sheetByte n m k =
 
 unfoldable pub sheetBytes : ℕ → ℕ → List ℕ
 sheetBytes n m = tab (27 + n * 5 + m * 5) (sheetByte n m)
-
-pub length-sheet : (n m : ℕ) → length (sheetBytes n m) ≡ 27 + n * 5 + m * 5
-unfolding sheetBytes
-length-sheet n m = length-tab (27 + n * 5 + m * 5) (sheetByte n m)
-
--- the two sheets that the program makes tables of are those
-pub bytes-8 : sheetBytes 32 8 ≡ encode (counters 32 8)
-unfolding sheets countOn headByte frontByte counterByte sheetByte sheetBytes
-bytes-8 = same-equal _ _ refl
-
-pub bytes-9 : sheetBytes 32 9 ≡ encode (counters 32 9)
-unfolding sheets countOn headByte frontByte counterByte sheetByte sheetBytes
-bytes-9 = same-equal _ _ refl
 
 -- ---- what the makers answer to bytes: document 01's number, and the states of the table
 

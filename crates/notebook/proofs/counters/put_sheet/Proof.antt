@@ -5,7 +5,8 @@ use native.Mathlib.Omega.{arith}
 use native.Mathlib.Nat.{zero-add}
 use lib.ListN.{set}
 use Rattle.records.specs.Laws.Stores.{Elements, same, none, more, all}
-use Rattle.notebook.specs.Model.Counters.{sheetByte, sheetBytes, length-sheet}
+use Rattle.notebook.specs.Model.Counters.{sheetByte, sheetBytes}
+use Rattle.notebook.proofs.Encoding.{sheet-encoded, length-encoded}
 use Rattle.notebook.proofs.counters.put_sheet.Statement.{statement}
 use Rattle.notebook.proofs.counters.put_sheet.Tie as tie
 
@@ -62,8 +63,12 @@ same-length c = same (c .before .loop .inv .1)
 
 returns : tie.Need-returns Inv-loop μ-loop
 unfolding sheetBytes
-returns c = let a = begun (c .before) .args in
-    (all (c .before .loop .inv .1) (omega arith), sym (length-sheet (a .n) (a .m)))
+returns c =
+    let s = begun (c .before) in
+    let few = s .pre in (
+      rw (← sheet-encoded (s .args .n) (s .args .m) (few .0) (few .1 .0)) (all (c .before .loop .inv .1) (omega arith)),
+      sym (length-encoded (s .args .n) (s .args .m) (few .0) (few .1 .0)),
+    )
 
 pub put-sheet-spec : {M : Type 1} → statement M
 put-sheet-spec =

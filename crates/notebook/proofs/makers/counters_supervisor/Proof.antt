@@ -4,11 +4,13 @@ use mathlib.Core.List.{List}
 use Prim.Native.Nat.{ℕ}
 use native.Mathlib.Omega.{arith}
 use lib.ListN.{length}
+use Rattle.sheet.specs.Meaning.Decoded.{encode}
 use Rattle.product.specs.Model.ProductNumbering.{stateCount}
 use Rattle.supervisor.specs.Model.SupervisorOfSheet.{supervisorTable}
-use Rattle.notebook.specs.Model.Counters.{sheetBytes, Answered}
+use Rattle.notebook.specs.Model.Counters.{counters, Answered}
 use Rattle.notebook.specs.Model.Figures.{room}
 use Rattle.notebook.proofs.Answers.{zeros-length, Written, written}
+use Rattle.notebook.proofs.Encoding.{length-encoded}
 use Rattle.notebook.proofs.makers.counters_supervisor.Statement.{statement}
 use Rattle.notebook.proofs.makers.counters_supervisor.Tie as tie
 
@@ -20,8 +22,10 @@ abbrev put : tie.After-supervisor-of → tie.After-put-sheet
 put c = c .before .before .before
 
 bytes : (c : tie.After-put-sheet) → Written (c .put-sheet .result) (c .put-sheet .last .0)
-    (sheetBytes (entry c .args .n) (entry c .args .m))
-bytes c = written (entry c .args .n) (entry c .args .m) (entry c .pre .0) (entry c .pre .1) (c .put-sheet .ensures)
+    (encode (counters (entry c .args .n) (entry c .args .m)))
+bytes c =
+    written _ (omega (arith, length-encoded (entry c .args .n) (entry c .args .m) (entry c .pre .0) (entry c .pre .1)))
+    (c .put-sheet .ensures)
 
 slice-aggregate-put-sheet : tie.Need-slice-aggregate-put-sheet
 slice-aggregate-put-sheet c = sym (zeros-length 512)
