@@ -1,6 +1,6 @@
 -- The records of a guard table, told by their kinds.
 -- Assumes nothing.
-use mathlib.Core.Bool.{Bool, false, true, cond}
+use mathlib.Core.Bool.{cond}
 use Prim.Native.Nat.{ℕ}
 use lib.Dec.{eqb}
 use Rattle.guard_table.specs.Meaning.RowKind.{kindNumber}

@@ -1,9 +1,4 @@
 -- `guard_table::kind::RowKind::same`: an arm for each two kinds. Assumes nothing.
-use mathlib.Core.Path.{sym, ap₂}
-use Prim.Native.Nat.{ℕ}
-use lib.Dec.{eqb}
-use Rattle.guard_table.specs.Meaning.RowKind.{kindNumber}
-use Rattle.guard_table.specs.declared.kind.RowKind.{RowKind}
 use borrow.Author.Needs.{needs}
 use Rattle.guard_table.proofs.kind.RowKind.same.Statement.{statement}
 use Rattle.guard_table.proofs.kind.RowKind.same.Tie as tie
