@@ -1,3 +1,3 @@
 -- Laws that belong to no one function.
 pub mod Handing
-pub mod Back
+pub mod Fields

@@ -1,4 +1,5 @@
 // A board by its 16 bytes.
+use crate::BoardBytes;
 use board::Board;
 use records::numbers::put_u16;
 use records::numbers::u16_at;
@@ -8,7 +9,7 @@ ghost use mathlib.Core.List.{[], _∷_};
 ghost use Prim.Native.Nat.{_+_, _≤_};
 ghost use lib.ListN.{length};
 ghost use lib.Seq.{sets};
-ghost use Rattle.board_bytes.specs.Meaning.BoardBytes.{u32At, u32Bytes, boardLength, boardIn, boardBytes};
+ghost use Rattle.board_bytes.specs.Meaning.BoardBytes.{u32At, u32Bytes, boardIn, boardBytes};
 
 // The four-byte number at an index.
 pub fn u32_at(s: &[u8], at: usize) -> u32
@@ -28,8 +29,7 @@ pub fn put_u32(out: &mut [u8], at: usize, value: u32)
 }
 
 // The board that the bytes stand for.
-pub fn board_in(s: &[u8]) -> Board
-    requires { ⌜ length (now s) ≡ boardLength ⌝ }
+pub fn board_in(s: &[u8; BoardBytes::LENGTH]) -> Board
     ensures { λ r. ⌜ r ≡ boardIn (now (s .entry)) ⌝ }
 {
     Board {
@@ -56,8 +56,7 @@ fn put_first(out: &mut [u8], loaded: bool, mode: u8, inputs: u8, outputs: u8)
 }
 
 // Writes a board's bytes.
-pub fn put_board(out: &mut [u8], board: Board)
-    requires { ⌜ length (now out) ≡ boardLength ⌝ }
+pub fn put_board(out: &mut [u8; BoardBytes::LENGTH], board: Board)
     ensures { λ _. ⌜ now (out .exit) ≡ boardBytes board ⌝ }
 {
     put_first(out, board.loaded, board.mode, board.inputs, board.outputs);

@@ -7,16 +7,22 @@ use crate::numbers::step_answer;
 use crate::numbers::step_number;
 use board::Board;
 ghost use mathlib.Core.Path.{_≡_};
-ghost use lib.ListN.{length};
-ghost use Rattle.board_bytes.specs.Meaning.BoardBytes.{boardLength};
-ghost use Rattle.board_bytes.specs.Promises.ByteCalls.{bytesAfter, LoadCall, StepCall, RewindCall, UnloadCall};
+ghost use Rattle.board_bytes.specs.Meaning.ByteCalls.{bytesAfter};
+ghost use Rattle.board_bytes.specs.Promises.ByteCalls.{LoadCall, StepCall, RewindCall, UnloadCall};
 
-pub mod layout;
+mod layout;
 pub mod numbers;
 
+// A board's bytes.
+pub struct BoardBytes {}
+
+impl BoardBytes {
+    // So many they are.
+    pub const LENGTH: usize = 16;
+}
+
 // Writes the board that a call hands back, where the call was not refused.
-fn hand_back(board: &mut [u8], number: u32, after: Board)
-    requires { ⌜ length (now board) ≡ boardLength ⌝ }
+fn hand_back(board: &mut [u8; BoardBytes::LENGTH], number: u32, after: Board)
     ensures { λ _. ⌜ now (board .exit) ≡ bytesAfter (now (board .entry)) number after ⌝ }
 {
     if number == 0 {
@@ -25,8 +31,7 @@ fn hand_back(board: &mut [u8], number: u32, after: Board)
 }
 
 // Loads a table.
-pub fn load(board: &mut [u8], table: &[u8]) -> u32
-    requires { ⌜ length (now board) ≡ boardLength ⌝ }
+pub fn load(board: &mut [u8; BoardBytes::LENGTH], table: &[u8]) -> u32
     ensures { λ r. ⌜ LoadCall (now (board .entry)) (now (table .entry)) r (now (board .exit)) ⌝ }
 {
     let loading = board_in(board).load(table);
@@ -38,8 +43,7 @@ pub fn load(board: &mut [u8], table: &[u8]) -> u32
 }
 
 // Answers an input: the number, and 65,536 times the output.
-pub fn step(board: &mut [u8], table: &[u8], input: u8) -> u32
-    requires { ⌜ length (now board) ≡ boardLength ⌝ }
+pub fn step(board: &mut [u8; BoardBytes::LENGTH], table: &[u8], input: u8) -> u32
     ensures { λ r. ⌜ StepCall (now (board .entry)) (now (table .entry)) input r (now (board .exit)) ⌝ }
 {
     let stepping = board_in(board).step(table, input);
@@ -50,8 +54,7 @@ pub fn step(board: &mut [u8], table: &[u8], input: u8) -> u32
 }
 
 // Begins the run anew.
-pub fn rewind(board: &mut [u8]) -> u32
-    requires { ⌜ length (now board) ≡ boardLength ⌝ }
+pub fn rewind(board: &mut [u8; BoardBytes::LENGTH]) -> u32
     ensures { λ r. ⌜ RewindCall (now (board .entry)) r (now (board .exit)) ⌝ }
 {
     let changing = board_in(board).rewind();
@@ -63,8 +66,7 @@ pub fn rewind(board: &mut [u8]) -> u32
 }
 
 // Empties the board.
-pub fn unload(board: &mut [u8]) -> u32
-    requires { ⌜ length (now board) ≡ boardLength ⌝ }
+pub fn unload(board: &mut [u8; BoardBytes::LENGTH]) -> u32
     ensures { λ r. ⌜ UnloadCall (now (board .entry)) r (now (board .exit)) ⌝ }
 {
     let changing = board_in(board).unload();

@@ -5,15 +5,24 @@ use board::answers::Step;
 use sheet::layout::Verdict;
 use solve::made::Made;
 ghost use mathlib.Core.Path.{_≡_};
-ghost use Prim.Native.Nat.{_≤_};
-ghost use lib.ListN.{length};
-ghost use lib.Seq.{sets};
 ghost use Rattle.board.specs.Meaning.Board.{changeNumber};
 ghost use Rattle.board.specs.Meaning.Load.{loadNumber};
-ghost use Rattle.board.specs.Meaning.BoardStep.{stepNumber};
+ghost use Rattle.board.specs.Meaning.BoardStep.{stepNumber, stepOutput};
 ghost use Rattle.sheet.specs.Meaning.Grounds.{verdictNumber};
 ghost use Rattle.solve.specs.Meaning.Made.{madeNumber, madeLength, madeStates};
-ghost use Rattle.board_bytes.specs.Promises.ByteCalls.{stepAnswer, figuresOf};
+ghost use Rattle.board_bytes.specs.Meaning.ByteCalls.{inOne};
+ghost use Rattle.board_bytes.specs.Promises.ByteCalls.{figuresOf};
+
+// What is reported of an answer beside its number.
+pub struct Figures {}
+
+impl Figures {
+    // Of a table or play that was made: its length and its states.
+    pub const MADE: usize = 2;
+
+    // Of a listing: its length.
+    pub const LISTED: usize = 1;
+}
 
 pub fn load_number(answer: Load) -> u32
     ensures { λ r. ⌜ r ≡ loadNumber answer ⌝ }
@@ -39,7 +48,7 @@ pub fn step_number(answer: Step) -> u32
 
 // Number and output in one.
 pub fn step_answer(answer: Step) -> u32
-    ensures { λ r. ⌜ r ≡ stepAnswer answer ⌝ }
+    ensures { λ r. ⌜ r ≡ inOne (record { number = stepNumber answer; output = stepOutput answer }) ⌝ }
 {
     match answer {
         Step::Output(output) => 65536 * (output as u32),
@@ -99,11 +108,9 @@ pub fn made_states(made: Made) -> usize
 }
 
 // Reports an answer: the figures are stored, the number is handed back.
-pub fn report(made: Made, figures: &mut [u64]) -> u32
-    requires { ⌜ 2 ≤ length (now figures) ⌝ }
-    ensures { λ r. ⌜ (r ≡ madeNumber made) × (now (figures .exit) ≡ sets (now (figures .entry)) 0 (figuresOf made)) ⌝ }
+pub fn report(made: Made, figures: &mut [u64; Figures::MADE]) -> u32
+    ensures { λ r. ⌜ (r ≡ madeNumber made) × (now (figures .exit) ≡ figuresOf made) ⌝ }
 {
-    figures[0] = made_length(made) as u64;
-    figures[1] = made_states(made) as u64;
+    *figures = [made_length(made) as u64, made_states(made) as u64];
     made_number(made)
 }

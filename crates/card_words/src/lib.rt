@@ -40,8 +40,8 @@ fn put_entry(words: &mut [u64], at: usize, entry: Entry)
     }
 }
 
-// Writes the card into words. What stood after its words stays.
-pub fn write_card(card: Card, words: &mut [u64])
+// Writes the words of a card. What stood after them stays.
+fn put_card(words: &mut [u64], card: Card)
     requires { ⌜ cardLength ≤ length (now words) ⌝ }
     requires { ⌜ AllNumbers (card .entries) ⌝ }
     ensures { λ _. ⌜ now (words .exit) ≡ sets (now (words .entry)) 0 (cardWords card) ⌝ }
@@ -53,4 +53,12 @@ pub fn write_card(card: Card, words: &mut [u64])
         put_entry(words, 1 + s * 2, entry);
         s += 1;
     }
+}
+
+// The card in words.
+pub fn write_card(card: Card, words: &mut [u64; CardWords::LENGTH])
+    requires { ⌜ AllNumbers (card .entries) ⌝ }
+    ensures { λ _. ⌜ now (words .exit) ≡ cardWords card ⌝ }
+{
+    put_card(words, card);
 }

@@ -1,2 +1,3 @@
--- Theorems about all calls together.
+-- Theorems that the sources cite, and one about all calls together.
+pub mod FaithfulBytes
 pub mod SmallerLimit

@@ -1,7 +1,12 @@
 // The public calls for programs in other languages: each is one call of a crate below, and its promise is that call's.
-// A slice crosses as a pointer and a length, a board as its 16 bytes, a card as 513 words, an answer as document 01's number.
+// A slice crosses as a pointer and a length, a board as 16 bytes, a card as 1,025 words, an answer as document 01's number. An array crosses
+// as a pointer alone, which no linker and no C compiler holds against the array's size; so each name ends in that size, and a program that
+// was compiled for another does not link.
+use board_bytes::BoardBytes;
+use board_bytes::numbers::Figures;
 use board_bytes::numbers::report;
 use board_bytes::numbers::verdict_number;
+use card_words::CardWords;
 use card_words::write_card;
 use forced::make::Forcing;
 use forecast::make::Forecast;
@@ -10,29 +15,25 @@ use report::Report;
 use supervisor::make::Supervisor;
 ghost use mathlib.Core.Path.{_≡_};
 ghost use mathlib.Core.List.{[], _∷_};
-ghost use Prim.Native.Nat.{_≤_};
 ghost use lib.ListN.{length};
 ghost use Rattle.records.specs.Meaning.Numbers.{zeros};
-ghost use Rattle.board_bytes.specs.Meaning.BoardBytes.{boardLength};
 ghost use Rattle.board_bytes.specs.Promises.ByteCalls.{LoadCall, StepCall, RewindCall, UnloadCall};
-ghost use Rattle.card_words.specs.Meaning.CardWords.{cardLength};
 ghost use Rattle.hundlezoqa_c.specs.Promises.Library.{ReportsSupervisor, ReportsGuard, ReportsForecast, ReportsForced, ReportsListing};
 
 // Makes a supervisor table.
 #[no_mangle]
-pub extern "C" fn hz_make_supervisor(
+pub extern "C" fn hz_make_supervisor_2(
     sheet: &[u8],
     result: &mut [u8],
     tuples: &mut [u64],
     cells: &mut [u16],
     dropped: &mut [u16],
-    figures: &mut [u64],
+    figures: &mut [u64; Figures::MADE],
 ) -> u32
-    requires { ⌜ 2 ≤ length (now figures) ⌝ }
     ensures made { λ r. ⌜
         ReportsSupervisor (now (sheet .entry)) (now (result .entry))
         (length (now (tuples .entry)) ∷ length (now (cells .entry)) ∷ length (now (dropped .entry)) ∷ []) (now (result .exit)) r
-        (now (figures .entry)) (now (figures .exit)) ⌝ }
+        (now (figures .exit)) ⌝ }
     ensures tuples { λ _. ⌜ now (tuples .exit) ≡ zeros (length (now (tuples .entry))) ⌝ }
     ensures cells { λ _. ⌜ now (cells .exit) ≡ zeros (length (now (cells .entry))) ⌝ }
     ensures dropped { λ _. ⌜ now (dropped .exit) ≡ zeros (length (now (dropped .entry))) ⌝ }
@@ -43,7 +44,7 @@ pub extern "C" fn hz_make_supervisor(
 
 // Makes a guard table.
 #[no_mangle]
-pub extern "C" fn hz_make_guard(
+pub extern "C" fn hz_make_guard_2(
     sheet: &[u8],
     result: &mut [u8],
     tuples: &mut [u64],
@@ -55,14 +56,13 @@ pub extern "C" fn hz_make_guard(
     arrivals: &mut [u64],
     order: &mut [u16],
     numbers: &mut [u16],
-    figures: &mut [u64],
+    figures: &mut [u64; Figures::MADE],
 ) -> u32
-    requires { ⌜ 2 ≤ length (now figures) ⌝ }
     ensures made { λ r. ⌜
         ReportsGuard (now (sheet .entry)) (now (result .entry))
         (length (now (tuples .entry)) ∷ length (now (cells .entry)) ∷ length (now (dropped .entry)) ∷ length (now (gains .entry)) ∷
         length (now (bonuses .entry)) ∷ length (now (values .entry)) ∷ length (now (arrivals .entry)) ∷
-        length (now (order .entry)) ∷ length (now (numbers .entry)) ∷ []) (now (result .exit)) r (now (figures .entry))
+        length (now (order .entry)) ∷ length (now (numbers .entry)) ∷ []) (now (result .exit)) r
         (now (figures .exit)) ⌝ }
     ensures tuples { λ _. ⌜ now (tuples .exit) ≡ zeros (length (now (tuples .entry))) ⌝ }
     ensures cells { λ _. ⌜ now (cells .exit) ≡ zeros (length (now (cells .entry))) ⌝ }
@@ -92,7 +92,7 @@ pub extern "C" fn hz_make_guard(
 
 // Makes a forecast card, in words.
 #[no_mangle]
-pub extern "C" fn hz_forecast(
+pub extern "C" fn hz_forecast_1025(
     sheet: &[u8],
     tuples: &mut [u64],
     cells: &mut [u16],
@@ -103,14 +103,13 @@ pub extern "C" fn hz_forecast(
     leasts: &mut [u64],
     highs: &mut [u64],
     lows: &mut [u64],
-    card: &mut [u64],
+    card: &mut [u64; CardWords::LENGTH],
 ) -> u32
-    requires { ⌜ cardLength ≤ length (now card) ⌝ }
     ensures made { λ r. ⌜
         ReportsForecast (now (sheet .entry))
         (length (now (tuples .entry)) ∷ length (now (cells .entry)) ∷ length (now (dropped .entry)) ∷ length (now (gains .entry)) ∷
         length (now (bonuses .entry)) ∷ length (now (bests .entry)) ∷ length (now (leasts .entry)) ∷
-        length (now (highs .entry)) ∷ length (now (lows .entry)) ∷ []) r (now (card .entry)) (now (card .exit)) ⌝ }
+        length (now (highs .entry)) ∷ length (now (lows .entry)) ∷ []) r (now (card .exit)) ⌝ }
     ensures tuples { λ _. ⌜ now (tuples .exit) ≡ zeros (length (now (tuples .entry))) ⌝ }
     ensures cells { λ _. ⌜ now (cells .exit) ≡ zeros (length (now (cells .entry))) ⌝ }
     ensures dropped { λ _. ⌜ now (dropped .exit) ≡ zeros (length (now (dropped .entry))) ⌝ }
@@ -140,33 +139,30 @@ pub extern "C" fn hz_forecast(
 
 // Shows how a break is forced.
 #[no_mangle]
-pub extern "C" fn hz_forced(
+pub extern "C" fn hz_forced_2(
     sheet: &[u8],
     result: &mut [u8],
     tuples: &mut [u64],
     cells: &mut [u16],
     dropped: &mut [u16],
-    figures: &mut [u64],
+    figures: &mut [u64; Figures::MADE],
 ) -> u32
-    requires { ⌜ 2 ≤ length (now figures) ⌝ }
     ensures made { λ r. ⌜
         ReportsForced (now (sheet .entry)) (now (result .entry))
         (length (now (tuples .entry)) ∷ length (now (cells .entry)) ∷ length (now (dropped .entry)) ∷ []) (now (result .exit)) r
-        (now (figures .entry)) (now (figures .exit)) ⌝ }
+        (now (figures .exit)) ⌝ }
     ensures tuples { λ _. ⌜ now (tuples .exit) ≡ zeros (length (now (tuples .entry))) ⌝ }
     ensures cells { λ _. ⌜ now (cells .exit) ≡ zeros (length (now (cells .entry))) ⌝ }
     ensures dropped { λ _. ⌜ now (dropped .exit) ≡ zeros (length (now (dropped .entry))) ⌝ }
 {
     let forced = Forcing::make(sheet, result, tuples, cells, dropped);
-    figures[0] = forced.length() as u64;
-    figures[1] = forced.states() as u64;
+    *figures = [forced.length() as u64, forced.states() as u64];
     forced.number()
 }
 
 // Loads a table.
 #[no_mangle]
-pub extern "C" fn hz_load(board: &mut [u8], table: &[u8]) -> u32
-    requires { ⌜ length (now board) ≡ boardLength ⌝ }
+pub extern "C" fn hz_load_16(board: &mut [u8; BoardBytes::LENGTH], table: &[u8]) -> u32
     ensures { λ r. ⌜ LoadCall (now (board .entry)) (now (table .entry)) r (now (board .exit)) ⌝ }
 {
     board_bytes::load(board, table)
@@ -174,8 +170,7 @@ pub extern "C" fn hz_load(board: &mut [u8], table: &[u8]) -> u32
 
 // Answers an input: the number, and 65,536 times the output.
 #[no_mangle]
-pub extern "C" fn hz_step(board: &mut [u8], table: &[u8], input: u8) -> u32
-    requires { ⌜ length (now board) ≡ boardLength ⌝ }
+pub extern "C" fn hz_step_16(board: &mut [u8; BoardBytes::LENGTH], table: &[u8], input: u8) -> u32
     ensures { λ r. ⌜ StepCall (now (board .entry)) (now (table .entry)) input r (now (board .exit)) ⌝ }
 {
     board_bytes::step(board, table, input)
@@ -183,8 +178,7 @@ pub extern "C" fn hz_step(board: &mut [u8], table: &[u8], input: u8) -> u32
 
 // Begins the run anew.
 #[no_mangle]
-pub extern "C" fn hz_rewind(board: &mut [u8]) -> u32
-    requires { ⌜ length (now board) ≡ boardLength ⌝ }
+pub extern "C" fn hz_rewind_16(board: &mut [u8; BoardBytes::LENGTH]) -> u32
     ensures { λ r. ⌜ RewindCall (now (board .entry)) r (now (board .exit)) ⌝ }
 {
     board_bytes::rewind(board)
@@ -192,8 +186,7 @@ pub extern "C" fn hz_rewind(board: &mut [u8]) -> u32
 
 // Empties the board.
 #[no_mangle]
-pub extern "C" fn hz_unload(board: &mut [u8]) -> u32
-    requires { ⌜ length (now board) ≡ boardLength ⌝ }
+pub extern "C" fn hz_unload_16(board: &mut [u8; BoardBytes::LENGTH]) -> u32
     ensures { λ r. ⌜ UnloadCall (now (board .entry)) r (now (board .exit)) ⌝ }
 {
     board_bytes::unload(board)
@@ -201,12 +194,15 @@ pub extern "C" fn hz_unload(board: &mut [u8]) -> u32
 
 // Lists a guard table as text.
 #[no_mangle]
-pub extern "C" fn hz_list(table: &[u8], text: &mut [u8], figures: &mut [u64]) -> u32
-    requires { ⌜ 1 ≤ length (now figures) ⌝ }
+pub extern "C" fn hz_list_1(
+    table: &[u8],
+    text: &mut [u8],
+    figures: &mut [u64; Figures::LISTED],
+) -> u32
     ensures { λ r. ⌜
-        ReportsListing (now (table .entry)) (now (text .entry)) (now (text .exit)) r (now (figures .entry)) (now (figures .exit)) ⌝ }
+        ReportsListing (now (table .entry)) (now (text .entry)) (now (text .exit)) r (now (figures .exit)) ⌝ }
 {
     let listed = Report::list(table, text);
-    figures[0] = listed.length() as u64;
+    *figures = [listed.length() as u64];
     listed.number()
 }

@@ -8,17 +8,11 @@ use Rattle.board_bytes.proofs.hand_back.Tie as tie
 put-board-requires : tie.Need-put-board-requires
 put-board-requires c κs = search needs
 
-same-length : tie.Need-same-length
-same-length c = search needs
-
 returns : tie.Need-returns
-returns c =
-    let put = c .before .before in
-    let known = put .before .before in
-    written _ _ _ _ (omega (arith, known .if1 .taken)) (put .put-board .ensures)
+returns c = written _ _ _ _ (omega (arith, c .before .before .if1 .taken)) (c .put-board .ensures)
 
 returns-2 : tie.Need-returns-2
 returns-2 c = untouched _ _ _ (c .if1 .left)
 
 pub hand-back-spec : {M : Type 1} → statement M
-hand-back-spec = tie.close (tie.spec put-board-requires same-length returns returns-2)
+hand-back-spec = tie.close (tie.spec put-board-requires returns returns-2)

@@ -16,24 +16,13 @@ load-number-requires c κs = search needs
 hand-back-requires : tie.Need-hand-back-requires
 hand-back-requires c κs = search needs
 
-same-length : tie.Need-same-length
-same-length c = search needs
-
 returns : tie.Need-returns
 returns c =
-    let handed = c .before .before in
-    let answered = handed .before .before in
+    let answered = c .before .before in
     let called = answered .before .before in
-    loads _ _ _ _ _ _ (called .before .board-in .ensures) (called .load .ensures) (answered .load-number .ensures)
-    (handed .hand-back .ensures)
+    loads _ _ _ _ _ _ (called .before .board-in .ensures) (called .load .ensures) (answered .load-number .ensures) (c .hand-back .ensures)
 
 pub load-spec : {M : Type 1} → statement M
 load-spec =
     tie.close
-    (tie.spec
-    board-in-requires
-    load-requires
-    load-number-requires
-    hand-back-requires
-    same-length
-    returns)
+    (tie.spec board-in-requires load-requires load-number-requires hand-back-requires returns)

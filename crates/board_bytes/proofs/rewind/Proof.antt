@@ -1,6 +1,5 @@
 -- `board_bytes::rewind`: the call below, by bytes. Assumes nothing.
-use Rattle.board.specs.Promises.Board.{RewindPromise}
-use Rattle.board_bytes.proofs.Handing.{changes}
+use Rattle.board_bytes.proofs.Handing.{rewinds}
 use borrow.Author.Needs.{needs}
 use Rattle.board_bytes.proofs.rewind.Statement.{statement}
 use Rattle.board_bytes.proofs.rewind.Tie as tie
@@ -17,24 +16,13 @@ change-number-requires c κs = search needs
 hand-back-requires : tie.Need-hand-back-requires
 hand-back-requires c κs = search needs
 
-same-length : tie.Need-same-length
-same-length c = search needs
-
 returns : tie.Need-returns
 returns c =
-    let handed = c .before .before in
-    let answered = handed .before .before in
+    let answered = c .before .before in
     let called = answered .before .before in
-    changes RewindPromise _ _ _ _ _ (called .before .board-in .ensures) (called .rewind .ensures) (answered .change-number .ensures)
-    (handed .hand-back .ensures)
+    rewinds _ _ _ _ _ (called .before .board-in .ensures) (called .rewind .ensures) (answered .change-number .ensures) (c .hand-back .ensures)
 
 pub rewind-spec : {M : Type 1} → statement M
 rewind-spec =
     tie.close
-    (tie.spec
-    board-in-requires
-    rewind-requires
-    change-number-requires
-    hand-back-requires
-    same-length
-    returns)
+    (tie.spec board-in-requires rewind-requires change-number-requires hand-back-requires returns)

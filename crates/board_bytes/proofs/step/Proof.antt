@@ -4,10 +4,7 @@ use borrow.Author.Needs.{needs}
 use Rattle.board_bytes.proofs.step.Statement.{statement}
 use Rattle.board_bytes.proofs.step.Tie as tie
 
--- the places that the need looks back to
-abbrev handed : tie.After-step-answer → tie.After-hand-back
-handed c = c .before .before .before
-
+-- the place that the need looks back to
 abbrev called : tie.After-step-number → tie.After-step
 called c = c .before .before .before
 
@@ -26,15 +23,13 @@ hand-back-requires c κs = search needs
 step-answer-requires : tie.Need-step-answer-requires
 step-answer-requires c κs = search needs
 
-same-length : tie.Need-same-length
-same-length c = search needs
-
 returns : tie.Need-returns
 returns c =
-    let numbered = handed c .before in
+    let handed = c .before in
+    let numbered = handed .before in
     let at = called numbered in
     steps _ _ _ _ _ _ _ _ (at .before .board-in .ensures) (at .step .ensures) (numbered .step-number .ensures) (c .step-answer .ensures)
-    (handed c .hand-back .ensures)
+    (handed .hand-back .ensures)
 
 pub step-spec : {M : Type 1} → statement M
 step-spec =
@@ -45,5 +40,4 @@ step-spec =
     step-number-requires
     hand-back-requires
     step-answer-requires
-    same-length
     returns)

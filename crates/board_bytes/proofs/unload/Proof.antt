@@ -1,6 +1,5 @@
 -- `board_bytes::unload`: the call below, by bytes. Assumes nothing.
-use Rattle.board.specs.Promises.Board.{UnloadPromise}
-use Rattle.board_bytes.proofs.Handing.{changes}
+use Rattle.board_bytes.proofs.Handing.{unloads}
 use borrow.Author.Needs.{needs}
 use Rattle.board_bytes.proofs.unload.Statement.{statement}
 use Rattle.board_bytes.proofs.unload.Tie as tie
@@ -17,24 +16,13 @@ change-number-requires c κs = search needs
 hand-back-requires : tie.Need-hand-back-requires
 hand-back-requires c κs = search needs
 
-same-length : tie.Need-same-length
-same-length c = search needs
-
 returns : tie.Need-returns
 returns c =
-    let handed = c .before .before in
-    let answered = handed .before .before in
+    let answered = c .before .before in
     let called = answered .before .before in
-    changes UnloadPromise _ _ _ _ _ (called .before .board-in .ensures) (called .unload .ensures) (answered .change-number .ensures)
-    (handed .hand-back .ensures)
+    unloads _ _ _ _ _ (called .before .board-in .ensures) (called .unload .ensures) (answered .change-number .ensures) (c .hand-back .ensures)
 
 pub unload-spec : {M : Type 1} → statement M
 unload-spec =
     tie.close
-    (tie.spec
-    board-in-requires
-    unload-requires
-    change-number-requires
-    hand-back-requires
-    same-length
-    returns)
+    (tie.spec board-in-requires unload-requires change-number-requires hand-back-requires returns)

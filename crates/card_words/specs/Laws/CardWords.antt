@@ -1,13 +1,16 @@
--- How many words a card has, and that no average has the word of a lost state.
+-- How many words a card has, that they fill a list of that length, and that no average has the word of a lost state.
 -- Assumes nothing.
 use mathlib.Core.Path.{_≡_, refl, sym, ap, subst, _∙_}
 use mathlib.Core.Bool.{not}
+use mathlib.Core.List.{List, append-nil}
 use Prim.Native.Nat.{ℕ, suc}
+use native.Mathlib.Omega.{arith}
 use lib.Dec.{T}
-use lib.ListN.{length}
+use lib.ListN.{length, drop-of-length-le}
+use lib.Seq.{sets}
 use lib.Ieee.{Float, nan, binary64, isNan, ofBits, toBits}
 use Rattle.records.specs.Meaning.Limits.{maxStates}
-use Rattle.records.specs.Laws.Lists.{length-cat}
+use Rattle.records.specs.Laws.Lists.{length-cat, sets-front}
 use Rattle.averages.specs.Meaning.Averages.{averageOf}
 use Rattle.averages.specs.Laws.Averages.{average-number, bits-back}
 use Rattle.card_words.specs.Meaning.CardWords.{lostWord, prospectWords, entryWords, cardWords, cardLength}
@@ -27,6 +30,13 @@ length-words e = two-words (e .prospect)
 pub length-card : (card : Card) → length (cardWords card) ≡ cardLength
 unfolding cardWords
 length-card card = ap suc (length-cat 2 maxStates _ (λ s h. length-words _))
+
+-- stored into as many words, they leave nothing of these
+pub card-fills : (words : List ℕ) (card : Card) → length words ≡ cardLength → sets words 0 (cardWords card) ≡ cardWords card
+card-fills words card e =
+    let as-long : length (cardWords card) ≡ cardLength = length-card card in
+    sets-front words (cardWords card) (omega arith)
+    ∙ (rw (drop-of-length-le words {i = length (cardWords card)} (omega arith)) (append-nil (cardWords card)))
 
 -- all ones are no number
 all-ones : ofBits binary64 lostWord ≡ nan

@@ -2,7 +2,9 @@
 use mathlib.Core.Path.{sym, ap, _∙_}
 use Prim.Native.Nat.{_*_}
 use native.Mathlib.Nat.{zero-add}
-use Rattle.board_bytes.specs.Promises.ByteCalls.{stepAnswer}
+use Rattle.board.specs.Meaning.BoardStep.{stepNumber, stepOutput}
+use Rattle.board.specs.declared.answers.Step.{Step}
+use Rattle.board_bytes.specs.Meaning.ByteCalls.{inOne}
 use borrow.Author.Needs.{needs}
 use Rattle.board_bytes.proofs.numbers.step_answer.Statement.{statement}
 use Rattle.board_bytes.proofs.numbers.step_answer.Tie as tie
@@ -29,7 +31,9 @@ enum-told-4 : tie.Need-enum-told-4
 enum-told-4 c = search needs
 
 returns : tie.Need-returns
-returns c = sym (ap stepAnswer (c .before .answer .given .1) ∙ zero-add (65536 * c .before .answer .given .0 .0))
+returns c =
+    sym (ap (λ (a : Step). inOne (record { number = stepNumber a; output = stepOutput a })) (c .before .answer .given .1)
+    ∙ zero-add (65536 * c .before .answer .given .0 .0))
 
 returns-2 : tie.Need-returns-2
 returns-2 c = rw (c .enum-told .given .1)

@@ -1,27 +1,21 @@
--- `hundlezoqa_c::hz_forecast`: the maker's own promise, and its card written in words. Assumes nothing.
+-- `hundlezoqa_c::hz_forecast_1025`: the maker's own promise, and its card written in words. Assumes nothing.
 use Rattle.hundlezoqa_c.proofs.Numbers.{made-numbers}
 use borrow.Author.Needs.{needs}
-use Rattle.hundlezoqa_c.proofs.hz_forecast.Statement.{statement}
-use Rattle.hundlezoqa_c.proofs.hz_forecast.Tie as tie
+use Rattle.hundlezoqa_c.proofs.hz_forecast_1025.Statement.{statement}
+use Rattle.hundlezoqa_c.proofs.hz_forecast_1025.Tie as tie
 
 -- the places that the needs look back to
 abbrev made : tie.After-write-card-arg → tie.After-make
 made c = c .before .before .before .before .before .before .before .before .before .before .before .before .before .before .before .before .before .before .before
 
-abbrev started : tie.After-make → tie.Start
-started c = c .before .before .before .before .before .before .before .before .before .before .before .before .before .before .before .before .before .before .before .before .before
-
-abbrev wrote : tie.After-verdict-number → tie.After-write-card
-wrote c = c .before .before .before
-
 abbrev called : tie.After-verdict-number → tie.After-make
-called c = made (wrote c .before)
+called c = made (c .before .before)
 
 make-requires : tie.Need-make-requires
 make-requires c κs = search needs
 
 write-card-requires : tie.Need-write-card-requires
-write-card-requires c κs = (started (made c) .pre, made-numbers (made c .make .ensures .0))
+write-card-requires c κs = made-numbers (made c .make .ensures .0)
 
 verdict-number-requires : tie.Need-verdict-number-requires
 verdict-number-requires c κs = search needs
@@ -53,22 +47,20 @@ same-length-8 c = called c .make .kept .1 .1 .1 .1 .1 .1 .1 .1 .0
 same-length-9 : tie.Need-same-length-9
 same-length-9 c = called c .make .kept .1 .1 .1 .1 .1 .1 .1 .1 .1 .0
 
-same-length-10 : tie.Need-same-length-10
-same-length-10 c = wrote c .write-card .kept .1 .0
-
 returns : tie.Need-returns
-returns c = (
-  record {
-    made = called c .make .result;
-    promised = called c .make .ensures .0;
-    number = c .verdict-number .ensures;
-    words = wrote c .write-card .ensures;
-  },
-  called c .make .ensures .1,
-)
+returns c =
+    let done = called c in (
+      record {
+        made = done .make .result;
+        promised = done .make .ensures .0;
+        number = c .verdict-number .ensures;
+        words = c .before .write-card .ensures;
+      },
+      done .make .ensures .1,
+    )
 
-pub hz-forecast-spec : {M : Type 1} → statement M
-hz-forecast-spec =
+pub hz-forecast-1025-spec : {M : Type 1} → statement M
+hz-forecast-1025-spec =
     tie.close
     (tie.spec
     make-requires
@@ -83,5 +75,4 @@ hz-forecast-spec =
     same-length-7
     same-length-8
     same-length-9
-    same-length-10
     returns)

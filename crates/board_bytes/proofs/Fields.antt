@@ -1,38 +1,22 @@
--- A board's bytes give the board back, and are what its fields leave, stored one after the other.
+-- A board's fields, stored one after the other, are its bytes.
 -- Assumes nothing.
-use mathlib.Core.Path.{_≡_, refl, _∙_}
-use mathlib.Core.Bool.{Bool, true, false, cond}
+use mathlib.Core.Path.{_≡_, _∙_}
+use mathlib.Core.Bool.{cond}
 use mathlib.Core.List.{List, [], _∷_, append-nil}
-use Prim.Native.Nat.{ℕ, _+_, _*_, _/_, _%_}
+use Prim.Native.Nat.{ℕ}
 use native.Mathlib.Omega.{arith}
-use lib.Dec.{eqb}
 use lib.ListN.{length, drop-of-length-le}
 use lib.Seq.{sets}
 use Rattle.records.specs.Laws.Lists.{sets-front}
-use Rattle.records.specs.Meaning.Numbers.{u16At, u16Bytes}
+use Rattle.records.specs.Meaning.Numbers.{u16Bytes}
 use Rattle.board.specs.declared.Board.{Board}
-use Rattle.board_bytes.specs.Meaning.BoardBytes.{u32At, u32Bytes, boardLength, boardIn, boardBytes}
-
--- a board that was written is read back
-pub board-back : (b : Board) → boardIn (boardBytes b) ≡ b
-unfolding boardIn boardBytes u32At u16At
-board-back b = simp (bit (b .loaded), two, four)
-  where
-    bit : (x : Bool) → eqb (cond x 1 0) 1 ≡ x
-    bit true = refl
-    bit false = refl
-
-    two : (v : ℕ) → v % 256 + 256 * (v / 256) ≡ v
-    two v = omega arith
-
-    four : (v : ℕ) → v % 65536 + 65536 * (v / 65536) ≡ v
-    four v = omega arith
+use Rattle.board_bytes.specs.Meaning.BoardBytes.{u32Bytes, boardLength, boardBytes}
 
 -- stores that fill a list leave nothing of it
 sets-whole : (s t : List ℕ) → length s ≡ length t → sets s 0 t ≡ t
 sets-whole s t e = sets-front s t (omega arith) ∙ (rw (drop-of-length-le s {i = length t} (omega arith)) (append-nil t))
 
--- the fields one after the other fill a slice of a board's length
+-- the fields one after the other fill a list of a board's length
 pub fields-stored : (b : Board) (s : List ℕ) {first count place steps deviations : List ℕ} → length s ≡ boardLength
     → first ≡ sets s 0 (cond (b .loaded) 1 0 ∷ b .mode ∷ b .inputs ∷ b .outputs ∷ [])
     → count ≡ sets first 4 (u16Bytes (b .count))
