@@ -1,20 +1,24 @@
 /* Hundlezoqa: guard tables made and run by proved functions. For C99 and C++; the library is
  * target/staticlib/libhundlezoqa_c.a (tools/library makes it), x86-64 code for the System V calling convention.
  *
- * Each function is proved to do what is said here FOR THE ARGUMENTS THAT IT ASKS FOR, and C checks none of that:
+ * Each function of the library is proved to do what is said here, whatever stands in the memory that it is given. The memory itself
+ * it asks for, AND C CHECKS NONE OF THAT:
  *
  * - A pointer and the length after it, in elements, are memory that may be read over that length, and where the pointer
- *   is not to const, written. It is aligned for its type. Where the length is 0 it is not null either.
+ *   is not to const, written. The length is true; it may be any: memory that is too short is refused.
+ * - A parameter with a size in brackets is memory of that size, which may be read and written.
+ * - Each is aligned for its type and not null, also where the length is 0.
  * - No two memories of a call overlap, be they written or only read.
  * - No memory of a call is read or written by another thread while the call lasts.
- * - A length of which it is said that it MUST be something is that, or anything may happen. Every other length may be
- *   anything; one that is too short is refused.
  *
- * Any values may stand in the memory: a wrong sheet, table, board or input is refused. A function answers HZ_OK or the number of a
- * refusal, and of several grounds the one that is named first. It always ends. It keeps no pointer and no state of its
- * own, so that threads may call at once, each with its own memory. Of the C library it needs memcpy and memset.
+ * A wrong sheet, table, board or input is refused. A function answers HZ_OK or the number of a refusal, and of several grounds the
+ * one that is named first. It always ends. It keeps no pointer and no state of its own, so that threads may call at once, each with
+ * its own memory. Of the C library it needs memcpy and memset.
  *
- * rust/conformance/tests/header.rs holds the numbers and lengths below against the Rust wrapper's. */
+ * hz_supervisor, hz_guard, hz_card and hz_play, at the end of this file, make the same calls with less to write.
+ *
+ * rust/conformance/tests/header.rs holds the numbers, lengths, names and functions below against the Rust wrapper and Rattle's
+ * source. */
 
 #ifndef HUNDLEZOQA_H
 #define HUNDLEZOQA_H
@@ -43,7 +47,7 @@ extern "C" {
 #define HZ_BAD_INPUT 12       /* the input is not below 2^inputs */
 #define HZ_EMPTY 20           /* the board is empty */
 #define HZ_OCCUPIED 21        /* the board is loaded */
-#define HZ_SPENT 22           /* 1,000,000 steps were taken since the load or rewind */
+#define HZ_SPENT 22           /* 1,000,000 steps were taken since the load or rewind: hz_rewind says what to heed */
 #define HZ_REALIZABLE 23      /* sheet: it can be kept from the start on, so that no break can be forced */
 
 /* Lengths that are always enough, in bytes. */
@@ -71,9 +75,10 @@ extern "C" {
 #define HZ_WORK_HIGHS 512    /* uint64_t; forecast */
 #define HZ_WORK_LOWS 512     /* uint64_t; forecast */
 
-/* The figures that the makers report, in elements; hz_list reports one. */
+/* The figures that the makers report, and those of hz_list, in elements. */
 
 #define HZ_FIGURES 2
+#define HZ_LISTING_FIGURES 1
 
 /* A forecast card, in elements: the number of product states, then two words for each of the 512 that there may be. They are
  * the bits of two doubles (IEEE 754), the state's best and its least average reward over the horizon's steps; both are
@@ -99,22 +104,42 @@ extern "C" {
 
 #define HZ_BOARD_BYTES 16
 
+/* The size of the array that a function is lent stands in its symbol: a program that was compiled against a header with another size
+ * does not link. These are the names to call them by. */
+
+#define hz_make_supervisor hz_make_supervisor_2
+#define hz_make_guard hz_make_guard_2
+#define hz_forecast hz_forecast_1025
+#define hz_forced hz_forced_2
+#define hz_load hz_load_16
+#define hz_step hz_step_16
+#define hz_rewind hz_rewind_16
+#define hz_unload hz_unload_16
+#define hz_list hz_list_1
+
+/* The size of an array parameter, which a C compiler may then hold an argument against. */
+
+#ifdef __cplusplus
+#define HZ_STATIC(size) size
+#else
+#define HZ_STATIC(size) static size
+#endif
+
 /* Makes the supervisor table of a sheet's bytes at the start of `result`.
  *
- * figures_len MUST be at least HZ_FIGURES.
  * HZ_OK: figures[0] is the table's length in bytes, figures[1] its number of states; the rest of `result` is as it was.
  * Refused: both figures are 0, `result` is as it was. HZ_SHORT_WORK, then the sheet's HZ_TRUNCATED to
  * HZ_LONG_HORIZON, record by record, then HZ_TOO_MANY_STATES, HZ_UNREALIZABLE, HZ_SHORT_RESULT.
- * Further figures are left alone. Work memory is zero afterwards, over all the length that was lent. */
+ * Work memory is zero afterwards, over all the length that was lent. */
 uint32_t hz_make_supervisor(const uint8_t *sheet, size_t sheet_len,
                             uint8_t *result, size_t result_len,
                             uint64_t *tuples, size_t tuples_len,
                             uint16_t *cells, size_t cells_len,
                             uint16_t *dropped, size_t dropped_len,
-                            uint64_t *figures, size_t figures_len);
+                            uint64_t figures[HZ_STATIC(HZ_FIGURES)]);
 
 /* Makes the guard table, which a board runs by: of up to 256 states with rows of kind 17, which have a byte for the next state,
- * of more with rows of kind 20, which have two. All is as of hz_make_supervisor: figures_len MUST be at least HZ_FIGURES. */
+ * of more with rows of kind 20, which have two. All is as of hz_make_supervisor. */
 uint32_t hz_make_guard(const uint8_t *sheet, size_t sheet_len,
                        uint8_t *result, size_t result_len,
                        uint64_t *tuples, size_t tuples_len,
@@ -126,15 +151,14 @@ uint32_t hz_make_guard(const uint8_t *sheet, size_t sheet_len,
                        uint64_t *arrivals, size_t arrivals_len,
                        uint16_t *order, size_t order_len,
                        uint16_t *numbers, size_t numbers_len,
-                       uint64_t *figures, size_t figures_len);
+                       uint64_t figures[HZ_STATIC(HZ_FIGURES)]);
 
 /* Makes the forecast card: how well each product state can still do. States are numbered as in the supervisor table.
  *
- * card_len MUST be at least HZ_CARD_WORDS.
  * HZ_OK: card[0] is the number of product states; card[1 + 2 * k] and card[2 + 2 * k] are state k's averages, both 0 at
  * horizon 0. Each is exact: times 2^(inputs * horizon) it is a whole sum of rewards.
  * Refused: card[0] is 0 and every entry HZ_LOST. As of hz_make_guard, but never HZ_SHORT_RESULT.
- * Words past HZ_CARD_WORDS are left alone. Work memory is zero afterwards, over all the length that was lent. */
+ * Work memory is zero afterwards, over all the length that was lent. */
 uint32_t hz_forecast(const uint8_t *sheet, size_t sheet_len,
                      uint64_t *tuples, size_t tuples_len,
                      uint16_t *cells, size_t cells_len,
@@ -145,7 +169,7 @@ uint32_t hz_forecast(const uint8_t *sheet, size_t sheet_len,
                      uint64_t *leasts, size_t leasts_len,
                      uint64_t *highs, size_t highs_len,
                      uint64_t *lows, size_t lows_len,
-                     uint64_t *card, size_t card_len);
+                     uint64_t card[HZ_STATIC(HZ_CARD_WORDS)]);
 
 /* Makes the play that beats an unrealizable sheet: by which inputs a break is forced, whatever the outputs are. It has an entry
  * of 3 + 2^outputs bytes for each product state, numbered as in the supervisor table:
@@ -158,46 +182,126 @@ uint32_t hz_forecast(const uint8_t *sheet, size_t sheet_len,
  *
  * Steps and input are 0 where the state is kept: its inputs can be answered for ever.
  *
- * figures_len MUST be at least HZ_FIGURES.
  * HZ_OK: figures[0] is the play's length in bytes, figures[1] its number of states; the rest of `result` is as it was.
  * Refused: as of hz_make_supervisor, but HZ_REALIZABLE in the place of HZ_UNREALIZABLE. The start alone decides it: other
- * states may be lost. Further figures are left alone. Work memory is zero afterwards, over all the length that was lent. */
+ * states may be lost. Work memory is zero afterwards, over all the length that was lent. */
 uint32_t hz_forced(const uint8_t *sheet, size_t sheet_len,
                    uint8_t *result, size_t result_len,
                    uint64_t *tuples, size_t tuples_len,
                    uint16_t *cells, size_t cells_len,
                    uint16_t *dropped, size_t dropped_len,
-                   uint64_t *figures, size_t figures_len);
+                   uint64_t figures[HZ_STATIC(HZ_FIGURES)]);
 
-/* The calls on a board: board_len MUST be exactly HZ_BOARD_BYTES. A refused call changes no byte of the board. A table's length is
- * exactly what the maker said: of a longer slice the call is refused. */
+/* The calls on a board. A refused call changes no byte of it. A table's length is exactly what the maker said: of a longer slice the
+ * call is refused. */
 
 /* Loads a guard table and begins a run. Its rows are all of one kind: 17 with at most 256 states, or 20 with any number.
  * Refused: HZ_OCCUPIED, HZ_BAD_TABLE. The board holds no pointer to the table: every step is lent it. */
-uint32_t hz_load(uint8_t *board, size_t board_len, const uint8_t *table, size_t table_len);
+uint32_t hz_load(uint8_t board[HZ_STATIC(HZ_BOARD_BYTES)], const uint8_t *table, size_t table_len);
 
 /* Answers an input by an output and moves on, by the table that was loaded. The answer has the number in its low 16
- * bits and the output above: number + 65536 * output; on a refusal the output is 0. Refused: HZ_EMPTY, HZ_SPENT,
- * HZ_BAD_INPUT, HZ_BAD_TABLE. */
-uint32_t hz_step(uint8_t *board, size_t board_len, const uint8_t *table, size_t table_len, uint8_t input);
+ * bits and the output above: number + 65536 * output. Refused: HZ_EMPTY, HZ_SPENT, HZ_BAD_INPUT, HZ_BAD_TABLE.
+ * The output 0 of a refused step is NO OUTPUT TO DRIVE: hold the last one, or the device's safe one. */
+uint32_t hz_step(uint8_t board[HZ_STATIC(HZ_BOARD_BYTES)], const uint8_t *table, size_t table_len, uint8_t input);
 
 #define HZ_STEP_NUMBER(answer) ((uint32_t)(answer) & 0xFFFFu)
 #define HZ_STEP_OUTPUT(answer) ((uint32_t)(answer) >> 16)
 
-/* Begins the run anew. Refused: HZ_EMPTY. */
-uint32_t hz_rewind(uint8_t *board, size_t board_len);
+/* Begins the run anew. Refused: HZ_EMPTY.
+ * The monitors begin anew too, and what the device did is forgotten: a lock that never opens twice running, opened at step
+ * 1,000,000, refused HZ_SPENT and rewound, may open again at once. So REWIND ONLY WHEN THE DEVICE IS AS AT THE START; the same of
+ * hz_unload and hz_load. */
+uint32_t hz_rewind(uint8_t board[HZ_STATIC(HZ_BOARD_BYTES)]);
 
 /* Empties the board. Refused: HZ_EMPTY. */
-uint32_t hz_unload(uint8_t *board, size_t board_len);
+uint32_t hz_unload(uint8_t board[HZ_STATIC(HZ_BOARD_BYTES)]);
 
 /* Writes the listing of a guard table, as tools/list prints it, at the start of `text`; no zero byte ends it.
  *
- * figures_len MUST be at least 1.
  * HZ_OK: figures[0] is the text's length in bytes; the rest of `text` is as it was.
- * Refused: figures[0] is 0, `text` is as it was. HZ_BAD_TABLE, HZ_SHORT_RESULT. Further figures are left alone. */
+ * Refused: figures[0] is 0, `text` is as it was. HZ_BAD_TABLE, HZ_SHORT_RESULT. */
 uint32_t hz_list(const uint8_t *table, size_t table_len,
                  uint8_t *text, size_t text_len,
-                 uint64_t *figures, size_t figures_len);
+                 uint64_t figures[HZ_STATIC(HZ_LISTING_FIGURES)]);
+
+/* The makers with all their work memory in one place. These are C, and only pass on what they are given: all is as of the function
+ * that each calls. */
+
+/* Work memory for every maker: some 100 KB, so static rather than on a stack. */
+struct hz_work {
+    uint64_t tuples[HZ_WORK_TUPLES];
+    uint16_t cells[HZ_WORK_CELLS];
+    uint16_t dropped[HZ_WORK_DROPPED];
+    uint16_t gains[HZ_WORK_GAINS];
+    uint16_t bonuses[HZ_WORK_BONUSES];
+    uint64_t values[HZ_WORK_VALUES];
+    uint64_t arrivals[HZ_WORK_ARRIVALS];
+    uint16_t order[HZ_WORK_ORDER];
+    uint16_t numbers[HZ_WORK_NUMBERS];
+    uint64_t bests[HZ_WORK_BESTS];
+    uint64_t leasts[HZ_WORK_LEASTS];
+    uint64_t highs[HZ_WORK_HIGHS];
+    uint64_t lows[HZ_WORK_LOWS];
+};
+
+/* What a maker answers: HZ_OK or the number of a refusal, and the length in bytes and the states of what it made, 0 on a refusal. */
+struct hz_made {
+    uint32_t number;
+    size_t length;
+    size_t states;
+};
+
+static inline struct hz_made hz_reported(uint32_t number, const uint64_t figures[HZ_STATIC(HZ_FIGURES)])
+{
+    struct hz_made made;
+    made.number = number;
+    made.length = (size_t)figures[0];
+    made.states = (size_t)figures[1];
+    return made;
+}
+
+/* hz_make_supervisor. */
+static inline struct hz_made hz_supervisor(const uint8_t *sheet, size_t sheet_len, uint8_t *result, size_t result_len,
+                                           struct hz_work *work)
+{
+    uint64_t figures[HZ_FIGURES] = {0, 0};
+    uint32_t number = hz_make_supervisor(sheet, sheet_len, result, result_len, work->tuples, HZ_WORK_TUPLES,
+                                         work->cells, HZ_WORK_CELLS, work->dropped, HZ_WORK_DROPPED, figures);
+    return hz_reported(number, figures);
+}
+
+/* hz_make_guard. */
+static inline struct hz_made hz_guard(const uint8_t *sheet, size_t sheet_len, uint8_t *result, size_t result_len,
+                                      struct hz_work *work)
+{
+    uint64_t figures[HZ_FIGURES] = {0, 0};
+    uint32_t number = hz_make_guard(sheet, sheet_len, result, result_len, work->tuples, HZ_WORK_TUPLES,
+                                    work->cells, HZ_WORK_CELLS, work->dropped, HZ_WORK_DROPPED,
+                                    work->gains, HZ_WORK_GAINS, work->bonuses, HZ_WORK_BONUSES,
+                                    work->values, HZ_WORK_VALUES, work->arrivals, HZ_WORK_ARRIVALS,
+                                    work->order, HZ_WORK_ORDER, work->numbers, HZ_WORK_NUMBERS, figures);
+    return hz_reported(number, figures);
+}
+
+/* hz_forecast. */
+static inline uint32_t hz_card(const uint8_t *sheet, size_t sheet_len, uint64_t card[HZ_STATIC(HZ_CARD_WORDS)],
+                               struct hz_work *work)
+{
+    return hz_forecast(sheet, sheet_len, work->tuples, HZ_WORK_TUPLES, work->cells, HZ_WORK_CELLS,
+                       work->dropped, HZ_WORK_DROPPED, work->gains, HZ_WORK_GAINS, work->bonuses, HZ_WORK_BONUSES,
+                       work->bests, HZ_WORK_BESTS, work->leasts, HZ_WORK_LEASTS, work->highs, HZ_WORK_HIGHS,
+                       work->lows, HZ_WORK_LOWS, card);
+}
+
+/* hz_forced. */
+static inline struct hz_made hz_play(const uint8_t *sheet, size_t sheet_len, uint8_t *result, size_t result_len,
+                                     struct hz_work *work)
+{
+    uint64_t figures[HZ_FIGURES] = {0, 0};
+    uint32_t number = hz_forced(sheet, sheet_len, result, result_len, work->tuples, HZ_WORK_TUPLES,
+                                work->cells, HZ_WORK_CELLS, work->dropped, HZ_WORK_DROPPED, figures);
+    return hz_reported(number, figures);
+}
 
 #ifdef __cplusplus
 }

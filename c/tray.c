@@ -37,20 +37,7 @@ static uint8_t play[HZ_FORCED_BYTES_MOST];
 static uint8_t text[HZ_LISTING_BYTES_MOST];
 static uint8_t board[HZ_BOARD_BYTES]; /* all zero: empty */
 static uint64_t card[HZ_CARD_WORDS];
-
-static uint64_t tuples[HZ_WORK_TUPLES];
-static uint16_t cells[HZ_WORK_CELLS];
-static uint16_t dropped[HZ_WORK_DROPPED];
-static uint16_t gains[HZ_WORK_GAINS];
-static uint16_t bonuses[HZ_WORK_BONUSES];
-static uint64_t values[HZ_WORK_VALUES];
-static uint64_t arrivals[HZ_WORK_ARRIVALS];
-static uint16_t order[HZ_WORK_ORDER];
-static uint16_t numbers[HZ_WORK_NUMBERS];
-static uint64_t bests[HZ_WORK_BESTS];
-static uint64_t leasts[HZ_WORK_LEASTS];
-static uint64_t highs[HZ_WORK_HIGHS];
-static uint64_t lows[HZ_WORK_LOWS];
+static struct hz_work work;
 
 /* Says that a call was refused, and answers whether it was. */
 static int refused(const char *call, uint32_t number)
@@ -80,10 +67,7 @@ static uint32_t forecast(void)
     uint64_t k;
     uint32_t answer;
 
-    answer = hz_forecast(sheet, LENGTH(sheet), tuples, LENGTH(tuples), cells, LENGTH(cells), dropped, LENGTH(dropped),
-                         gains, LENGTH(gains), bonuses, LENGTH(bonuses), bests, LENGTH(bests), leasts, LENGTH(leasts),
-                         highs, LENGTH(highs), lows, LENGTH(lows),
-                         card, LENGTH(card));
+    answer = hz_card(sheet, LENGTH(sheet), card, &work);
     for (k = 0; k < card[0]; k++) /* refused: none */
         if (card[1 + 2 * k] == HZ_LOST)
             printf("product state %lu: lost\n", (unsigned long)k);
@@ -96,15 +80,13 @@ static uint32_t forecast(void)
 /* The sheet that asks for too much is refused; makes its play, and prints a line for each product state. */
 static uint32_t forced(void)
 {
-    uint64_t figures[HZ_FIGURES], k;
-    uint32_t answer;
+    struct hz_made made;
+    size_t k;
 
-    answer = hz_make_supervisor(too_much, LENGTH(too_much), table, LENGTH(table), tuples, LENGTH(tuples),
-                                cells, LENGTH(cells), dropped, LENGTH(dropped), figures, LENGTH(figures));
-    refused("hz_make_supervisor", answer); /* HZ_UNREALIZABLE, as c/tray.out has it */
-    answer = hz_forced(too_much, LENGTH(too_much), play, LENGTH(play), tuples, LENGTH(tuples), cells, LENGTH(cells),
-                       dropped, LENGTH(dropped), figures, LENGTH(figures));
-    for (k = 0; k < figures[1]; k++) { /* refused: none */
+    made = hz_supervisor(too_much, LENGTH(too_much), table, LENGTH(table), &work);
+    refused("hz_make_supervisor", made.number); /* HZ_UNREALIZABLE, as c/tray.out has it */
+    made = hz_play(too_much, LENGTH(too_much), play, LENGTH(play), &work);
+    for (k = 0; k < made.states; k++) { /* refused: none */
         const uint8_t *entry = play + ENTRY * k;
         unsigned least = entry[0] | (unsigned)entry[1] << 8;
         if (least == 0)
@@ -115,37 +97,34 @@ static uint32_t forced(void)
         else
             printf("product state %lu: steps %u, tray %d\n", (unsigned long)k, least, entry[2]);
     }
-    return answer;
+    return made.number;
 }
 
 int main(void)
 {
     static const uint8_t trays[] = {1, 1, 1, 0, 1};
-    uint64_t figures[HZ_FIGURES];
-    size_t length, i;
+    struct hz_made made;
+    uint64_t written;
+    size_t i;
     uint32_t answer;
 
     if (refused("hz_forecast", forecast()))
         return 1;
 
-    answer = hz_make_guard(sheet, LENGTH(sheet), table, LENGTH(table), tuples, LENGTH(tuples), cells, LENGTH(cells),
-                           dropped, LENGTH(dropped), gains, LENGTH(gains), bonuses, LENGTH(bonuses),
-                           values, LENGTH(values), arrivals, LENGTH(arrivals), order, LENGTH(order),
-                           numbers, LENGTH(numbers), figures, LENGTH(figures));
-    if (refused("hz_make_guard", answer))
+    made = hz_guard(sheet, LENGTH(sheet), table, LENGTH(table), &work);
+    if (refused("hz_make_guard", made.number))
         return 1;
-    length = (size_t)figures[0];
-    printf("a guard of %lu states in %lu bytes\n", (unsigned long)figures[1], (unsigned long)length);
+    printf("a guard of %lu states in %lu bytes\n", (unsigned long)made.states, (unsigned long)made.length);
 
-    if (refused("hz_list", hz_list(table, length, text, LENGTH(text), figures, LENGTH(figures))))
+    if (refused("hz_list", hz_list(table, made.length, text, LENGTH(text), &written)))
         return 1;
-    fwrite(text, 1, (size_t)figures[0], stdout);
+    fwrite(text, 1, (size_t)written, stdout);
 
-    if (refused("hz_load", hz_load(board, LENGTH(board), table, length)))
+    if (refused("hz_load", hz_load(board, table, made.length)))
         return 1;
     for (i = 0; i < LENGTH(trays); i++) {
-        answer = hz_step(board, LENGTH(board), table, length, trays[i]);
-        /* A lock would be closed here: on a refusal there is no output to give. */
+        answer = hz_step(board, table, made.length, trays[i]);
+        /* On a refusal there is no output to drive: a lock would be held closed here. */
         if (refused("hz_step", HZ_STEP_NUMBER(answer)))
             return 1;
         printf("tray %d: open %lu\n", trays[i], (unsigned long)HZ_STEP_OUTPUT(answer));
@@ -153,15 +132,15 @@ int main(void)
     printf("%lu steps\n", steps());
 
     /* One line has no input 2: the step is refused, and the board is as it was. */
-    answer = hz_step(board, LENGTH(board), table, length, 2);
+    answer = hz_step(board, table, made.length, 2);
     if (HZ_STEP_NUMBER(answer) != HZ_BAD_INPUT)
         return 1;
     refused("hz_step", HZ_STEP_NUMBER(answer));
     printf("%lu steps\n", steps());
 
-    if (refused("hz_unload", hz_unload(board, LENGTH(board))))
+    if (refused("hz_unload", hz_unload(board)))
         return 1;
-    refused("hz_rewind", hz_rewind(board, LENGTH(board))); /* nothing is loaded any more */
+    refused("hz_rewind", hz_rewind(board)); /* nothing is loaded any more */
 
     if (refused("hz_forced", forced()))
         return 1;

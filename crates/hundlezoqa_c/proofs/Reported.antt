@@ -10,8 +10,8 @@ use Rattle.board_bytes.specs.Promises.ByteCalls.{Reports}
 use Rattle.hundlezoqa_c.specs.Laws.FaithfulBytes.{faithful-bytes}
 use Rattle.hundlezoqa_c.specs.Promises.Library.{ReportsGuard}
 
-pub reported-guard : (s before lent after : List ℕ) {r : ℕ} {reported : List ℕ} → Reports (λ made. MakesGuard s before lent made after) r reported
-    → ReportsGuard s before lent after r reported
+pub reported-guard : (s before lent after : List ℕ) {r : ℕ} {reported : List ℕ}
+    → Reports (λ made. MakesGuard s before lent made after) r reported → ReportsGuard s before lent after r reported
 reported-guard s before lent after {r} {reported} p =
     record {
       reports = p;

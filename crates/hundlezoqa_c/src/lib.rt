@@ -1,7 +1,6 @@
 // The public calls for programs in other languages: each is one call of a crate below, and its promise is that call's.
-// A slice crosses as a pointer and a length, a board as 16 bytes, a card as 1,025 words, an answer as document 01's number. An array crosses
-// as a pointer alone, which no linker and no C compiler holds against the array's size; so each name ends in that size, and a program that
-// was compiled for another does not link.
+// A slice crosses as a pointer and a length, a board as 16 bytes, a card as 1,025 words, an answer as document 01's number.
+// An array crosses as a pointer alone. So each name ends in its array's size: a program that was compiled for another does not link.
 use board_bytes::BoardBytes;
 use board_bytes::numbers::Figures;
 use board_bytes::numbers::report;

@@ -2,8 +2,8 @@
 //!
 //! This is the only module with unsafe code, and the only place that knows the signatures, which
 //! are those of crates/hundlezoqa_c/src/lib.rt. For each, 0 is "not refused". A slice crosses as a pointer
-//! and a length in elements; the library reads through `*const`, reads and writes through `*mut`,
-//! and keeps no pointer when it returns.
+//! and a length in elements, an array as a pointer alone, and the symbol ends in its size; the library
+//! reads through `*const`, reads and writes through `*mut`, and keeps no pointer when it returns.
 
 use crate::work::STATES_MOST;
 use crate::Work;
@@ -47,15 +47,15 @@ macro_rules! library {
 }
 
 library! {
-    fn hz_make_supervisor(
+    fn hz_make_supervisor_2(
         sheet: *const u8, sheet_len: usize,
         result: *mut u8, result_len: usize,
         tuples: *mut u64, tuples_len: usize,
         cells: *mut u16, cells_len: usize,
         dropped: *mut u16, dropped_len: usize,
-        figures: *mut u64, figures_len: usize,
+        figures: *mut [u64; FIGURES],
     ) -> u32;
-    fn hz_make_guard(
+    fn hz_make_guard_2(
         sheet: *const u8, sheet_len: usize,
         result: *mut u8, result_len: usize,
         tuples: *mut u64, tuples_len: usize,
@@ -67,9 +67,9 @@ library! {
         arrivals: *mut u64, arrivals_len: usize,
         order: *mut u16, order_len: usize,
         numbers: *mut u16, numbers_len: usize,
-        figures: *mut u64, figures_len: usize,
+        figures: *mut [u64; FIGURES],
     ) -> u32;
-    fn hz_forecast(
+    fn hz_forecast_1025(
         sheet: *const u8, sheet_len: usize,
         tuples: *mut u64, tuples_len: usize,
         cells: *mut u16, cells_len: usize,
@@ -80,28 +80,28 @@ library! {
         leasts: *mut u64, leasts_len: usize,
         highs: *mut u64, highs_len: usize,
         lows: *mut u64, lows_len: usize,
-        card: *mut u64, card_len: usize,
+        card: *mut [u64; CARD_WORDS],
     ) -> u32;
-    fn hz_forced(
+    fn hz_forced_2(
         sheet: *const u8, sheet_len: usize,
         result: *mut u8, result_len: usize,
         tuples: *mut u64, tuples_len: usize,
         cells: *mut u16, cells_len: usize,
         dropped: *mut u16, dropped_len: usize,
-        figures: *mut u64, figures_len: usize,
+        figures: *mut [u64; FIGURES],
     ) -> u32;
-    fn hz_load(board: *mut u8, board_len: usize, table: *const u8, table_len: usize) -> u32;
-    fn hz_step(
-        board: *mut u8, board_len: usize,
+    fn hz_load_16(board: *mut [u8; BOARD_BYTES], table: *const u8, table_len: usize) -> u32;
+    fn hz_step_16(
+        board: *mut [u8; BOARD_BYTES],
         table: *const u8, table_len: usize,
         input: u8,
     ) -> u32;
-    fn hz_rewind(board: *mut u8, board_len: usize) -> u32;
-    fn hz_unload(board: *mut u8, board_len: usize) -> u32;
-    fn hz_list(
+    fn hz_rewind_16(board: *mut [u8; BOARD_BYTES]) -> u32;
+    fn hz_unload_16(board: *mut [u8; BOARD_BYTES]) -> u32;
+    fn hz_list_1(
         table: *const u8, table_len: usize,
         text: *mut u8, text_len: usize,
-        figures: *mut u64, figures_len: usize,
+        figures: *mut [u64; LISTING_FIGURES],
     ) -> u32;
 }
 
@@ -114,10 +114,10 @@ pub fn make_supervisor(
 ) -> u32 {
     // SAFETY: `sheet` is valid for reads of its length. `result`, `figures` and the vectors tuples,
     // cells and dropped are each valid for reads and writes of their own length; each is borrowed
-    // by `&mut` or owned by what is, so that no two of the six overlap. The one length asked for is
-    // that of the figures, at least 2, and `FIGURES` is 2; shorter work or result memory is refused.
+    // by `&mut` or owned by what is, so that no two of the six overlap. The figures are the two
+    // that the symbol names, by their type; any other length may be, and what is too short is refused.
     unsafe {
-        hz_make_supervisor(
+        hz_make_supervisor_2(
             sheet.as_ptr(),
             sheet.len(),
             result.as_mut_ptr(),
@@ -128,8 +128,7 @@ pub fn make_supervisor(
             work.cells.len(),
             work.dropped.as_mut_ptr(),
             work.dropped.len(),
-            figures.as_mut_ptr(),
-            figures.len(),
+            figures,
         )
     }
 }
@@ -143,10 +142,10 @@ pub fn make_guard(
 ) -> u32 {
     // SAFETY: `sheet` is valid for reads of its length. `result`, `figures` and the nine vectors
     // that `work` lends are each valid for reads and writes of their own length; each is borrowed by
-    // `&mut` or owned by what is, so that no two of the twelve overlap. The one length asked for is
-    // that of the figures, at least 2, and `FIGURES` is 2; shorter work or result memory is refused.
+    // `&mut` or owned by what is, so that no two of the twelve overlap. The figures are the two
+    // that the symbol names, by their type; any other length may be, and what is too short is refused.
     unsafe {
-        hz_make_guard(
+        hz_make_guard_2(
             sheet.as_ptr(),
             sheet.len(),
             result.as_mut_ptr(),
@@ -169,8 +168,7 @@ pub fn make_guard(
             work.order.len(),
             work.numbers.as_mut_ptr(),
             work.numbers.len(),
-            figures.as_mut_ptr(),
-            figures.len(),
+            figures,
         )
     }
 }
@@ -181,11 +179,10 @@ pub fn forecast<const WORDS: usize>(sheet: &[u8], work: &mut Work, card: &mut [u
     const { assert!(WORDS >= CARD_WORDS, "a card is longer") }
     // SAFETY: `sheet` is valid for reads of its length. `card` and the nine vectors that `work` lends
     // are each valid for reads and writes of their own length; each is borrowed by `&mut` or owned by
-    // what is, so that no two of the eleven overlap. The one length asked for is that of the card, at
-    // least 1025, and `WORDS` was held against `CARD_WORDS`, which is 1025; shorter work memory is
-    // refused.
+    // what is, so that no two of the eleven overlap. The card has the 1025 words that the symbol names:
+    // `WORDS` was held against `CARD_WORDS`. Any other length may be, and what is too short is refused.
     unsafe {
-        hz_forecast(
+        hz_forecast_1025(
             sheet.as_ptr(),
             sheet.len(),
             work.tuples.as_mut_ptr(),
@@ -206,8 +203,7 @@ pub fn forecast<const WORDS: usize>(sheet: &[u8], work: &mut Work, card: &mut [u
             work.highs.len(),
             work.lows.as_mut_ptr(),
             work.lows.len(),
-            card.as_mut_ptr(),
-            card.len(),
+            card.as_mut_ptr().cast(),
         )
     }
 }
@@ -221,10 +217,10 @@ pub fn forced(
 ) -> u32 {
     // SAFETY: `sheet` is valid for reads of its length. `result`, `figures` and the vectors tuples,
     // cells and dropped are each valid for reads and writes of their own length; each is borrowed
-    // by `&mut` or owned by what is, so that no two of the six overlap. The one length asked for is
-    // that of the figures, at least 2, and `FIGURES` is 2; shorter work or result memory is refused.
+    // by `&mut` or owned by what is, so that no two of the six overlap. The figures are the two
+    // that the symbol names, by their type; any other length may be, and what is too short is refused.
     unsafe {
-        hz_forced(
+        hz_forced_2(
             sheet.as_ptr(),
             sheet.len(),
             result.as_mut_ptr(),
@@ -235,60 +231,47 @@ pub fn forced(
             work.cells.len(),
             work.dropped.as_mut_ptr(),
             work.dropped.len(),
-            figures.as_mut_ptr(),
-            figures.len(),
+            figures,
         )
     }
 }
 
 /// Loads a table.
 pub fn load(board: &mut [u8; BOARD_BYTES], table: &[u8]) -> u32 {
-    // SAFETY: `table` is valid for reads of its length. `board` is valid for reads and writes of the
-    // 16 bytes asked for, which its type has, and exclusive, so that it does not overlap the table.
-    // Of the table no length is asked for: one that is not a table's is refused.
-    unsafe { hz_load(board.as_mut_ptr(), board.len(), table.as_ptr(), table.len()) }
+    // SAFETY: `table` is valid for reads of its length, which may be any. `board` is valid for reads
+    // and writes of the 16 bytes that the symbol names, by its type, and exclusive, so that it does
+    // not overlap the table.
+    unsafe { hz_load_16(board, table.as_ptr(), table.len()) }
 }
 
 /// Steps, and answers the number and the output.
 #[inline]
 pub fn step(board: &mut [u8; BOARD_BYTES], table: &[u8], input: u8) -> (u32, u32) {
-    // SAFETY: `table` is valid for reads of its length. `board` is valid for reads and writes of the
-    // 16 bytes asked for, which its type has, and exclusive, so that it does not overlap the table.
-    // Of the table no length is asked for: one that is not the board's is refused. Any input may be
-    // given.
-    let answer =
-        unsafe { hz_step(board.as_mut_ptr(), board.len(), table.as_ptr(), table.len(), input) };
+    // SAFETY: `table` is valid for reads of its length, which may be any. `board` is valid for reads
+    // and writes of the 16 bytes that the symbol names, by its type, and exclusive, so that it does
+    // not overlap the table. Any input may be given.
+    let answer = unsafe { hz_step_16(board, table.as_ptr(), table.len(), input) };
     (answer & 0xFFFF, answer >> 16)
 }
 
 /// Rewinds.
 pub fn rewind(board: &mut [u8; BOARD_BYTES]) -> u32 {
-    // SAFETY: `board` is exclusive, and valid for reads and writes of the 16 bytes asked for, which
-    // its type has. Any values may stand in them.
-    unsafe { hz_rewind(board.as_mut_ptr(), board.len()) }
+    // SAFETY: `board` is exclusive, and valid for reads and writes of the 16 bytes that the symbol
+    // names, by its type. Any values may stand in them.
+    unsafe { hz_rewind_16(board) }
 }
 
 /// Unloads.
 pub fn unload(board: &mut [u8; BOARD_BYTES]) -> u32 {
-    // SAFETY: `board` is exclusive, and valid for reads and writes of the 16 bytes asked for, which
-    // its type has. Any values may stand in them.
-    unsafe { hz_unload(board.as_mut_ptr(), board.len()) }
+    // SAFETY: `board` is exclusive, and valid for reads and writes of the 16 bytes that the symbol
+    // names, by its type. Any values may stand in them.
+    unsafe { hz_unload_16(board) }
 }
 
 /// Lists a guard table at the start of the text memory.
 pub fn list(table: &[u8], text: &mut [u8], figures: &mut [u64; LISTING_FIGURES]) -> u32 {
     // SAFETY: `table` is valid for reads of its length. `text` and `figures` are each valid for reads
     // and writes of their own length, and exclusive, so that no two of the three overlap. The one
-    // length asked for is that of the figures, at least 1, and `LISTING_FIGURES` is 1; a slice that
-    // is no table and shorter text memory are refused.
-    unsafe {
-        hz_list(
-            table.as_ptr(),
-            table.len(),
-            text.as_mut_ptr(),
-            text.len(),
-            figures.as_mut_ptr(),
-            figures.len(),
-        )
-    }
+    // figure is what the symbol names, by its type; any other length may be.
+    unsafe { hz_list_1(table.as_ptr(), table.len(), text.as_mut_ptr(), text.len(), figures) }
 }
