@@ -10,9 +10,9 @@ use Rattle.records.specs.Laws.Tests.{by-test}
 use Rattle.game.specs.Meaning.History.{Step}
 use Rattle.game.specs.Meaning.Book.{Call, load, step, rewind, unload, Answer, Entry}
 use Rattle.game.specs.Meaning.Machine.{Held, replies, Shown, Agrees}
-use Rattle.board.specs.Meaning.Board.{live, rewindOn, unloadOn, changeNumber}
-use Rattle.board.specs.Meaning.Load.{loadOn, loadNumber}
-use Rattle.board.specs.Meaning.BoardStep.{stepOn, stepNumber, boardMoved}
+use Rattle.board.specs.Meaning.Board.{live, changeNumber}
+use Rattle.board.specs.Meaning.Load.{loadNumber}
+use Rattle.board.specs.Meaning.BoardStep.{stepNumber, boardMoved}
 use Rattle.board.specs.Meaning.Calls.{boardAfter, says}
 use Rattle.board.specs.Laws.Calls.{refused, taken}
 use Rattle.board.specs.Laws.Calls as laws
@@ -26,7 +26,7 @@ use Rattle.board_bytes.specs.Laws.BoardBytes.{board-back}
 
 -- ---- a refused call hands back the same board
 
--- the call is not refused, or the board is the same
+-- the call on b is not refused, or hands back b
 abbrev Refused : Board → ℕ → Board → Type 0
 Refused b number after = eqb number 0 ≡ false → after ≡ b
 
@@ -64,6 +64,7 @@ refused-same b unload =
 
 -- ---- the bytes stand for the board
 
+-- after a call, for the one that the call on the board hands back
 pub bytes-board : (bytes : List ℕ) (c : Call (List ℕ)) → boardIn (bytesOn bytes c) ≡ boardAfter (boardIn bytes) c
 unfolding bytesAfter
 bytes-board bytes c =
@@ -90,7 +91,7 @@ module _ (Shows : Board → List Step → Type 0) where
         shown-bytes (bytesOn bytes c) cs es (subst (λ (b : Board). BoardShown b cs es) back (s .1)),
       )
 
-  -- a list of calls that the board keeps the book of, its bytes keep the book of
+  -- a list of calls in which the board agrees with the book: its bytes do too
   pub bytes-agree : {S : Type 0} {I limit : ℕ} {next : S → ℕ → ℕ → S} {start : S} {Moves : S → ℕ → ℕ → Type 0} (bytes : List ℕ)
       (cs : List (Call (List ℕ))) → Agrees (List ℕ) Board boardAfter says S I limit next start Moves Shows (boardIn bytes) cs
       → Agrees (List ℕ) (List ℕ) bytesOn bytesSay S I limit next start Moves (λ x. Shows (boardIn x)) bytes cs
