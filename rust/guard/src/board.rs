@@ -57,6 +57,9 @@ impl Board {
 
     /// Answers an input by an output and moves on. Refused, in this order: [`Refusal::Empty`],
     /// [`Refusal::Spent`], [`Refusal::BadInput`], [`Refusal::BadTable`].
+    ///
+    /// A refused step has no output to drive (the 0 of [`calls::step`] is none): hold the last one,
+    /// or the one that is safe.
     #[inline]
     pub fn step(&mut self, table: impl AsRef<[u8]>, input: u8) -> Result<u8, Refusal> {
         let (number, output) = calls::step(&mut self.bytes, table.as_ref(), input);
@@ -65,6 +68,11 @@ impl Board {
     }
 
     /// Begins the run again. Refused: [`Refusal::Empty`].
+    ///
+    /// The monitors begin anew, as they do after [`Board::unload`] and [`Board::load`], and forget
+    /// what the device did: a lock that was opened at step 1,000,000, is refused
+    /// [`Refusal::Spent`] and is rewound may open again at once. So rewind only when the device is
+    /// as at the start.
     pub fn rewind(&mut self) -> Result<(), Refusal> {
         Refusal::check(calls::rewind(&mut self.bytes))
     }

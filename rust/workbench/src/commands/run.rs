@@ -24,6 +24,10 @@ site's lines, a slash and the proposal: `tray / open`. Or a line is one of rewin
 lines and what comes after # are passed over. Each call is answered by a line: the output by names, the
 state, the steps and the deviations; or the refusal. A line that cannot be read calls nothing, and is told
 on standard error. The run goes on after both, and then exits 1 at the end. FILE cannot be - here.
+
+For a board that drives a device: rewind, or unload and load, begins the monitors anew and forgets what
+the device did, so rewind only when it is as at the start. A refused step has no output to drive: hold the
+last one, or the one that is safe.
 ",
     files: 1,
     options: &[],
