@@ -83,6 +83,9 @@ const HEADS: &str = "states guard rounds letters";
 /// What sheets come to: product states, guard states (none of an unrealizable sheet), rounds and letters;
 /// or the refusal.
 fn size(sheets: &[Vec<u8>]) -> String {
+    if let Err(refusal) = Sheet::parse(&sheets[0]) {
+        return format!("{:<19} {:>7}", refusal.to_string(), "-");
+    }
     let letters = sheets.iter().map(|sheet| {
         let sheet = Sheet::parse(sheet).expect("the sheet is read");
         sheet.input_count() * sheet.output_count()
@@ -109,6 +112,7 @@ pub fn all() -> Vec<Group> {
         ties(),
         few_letters(),
         refused(),
+        cut(),
         one_hash(),
         shields(),
         long_horizons(),
@@ -191,6 +195,12 @@ fn refused() -> Group {
     group
 }
 
+/// A call that is refused by its first record does nothing but clear work memory; a forecast also
+/// hands its card back.
+fn cut() -> Group {
+    Group::by(ALL, "refused 1", vec![named(("one byte: clearing alone", vec![0]))])
+}
+
 fn one_hash() -> Group {
     // Lines 4 and 5 go out. Where line 0 moves a group, no two neighbouring letters lead alike.
     let rows = [
@@ -243,6 +253,7 @@ mod tests {
     fn sheets_come_to_what_they_are_named_for() {
         for group in all() {
             let expected = match group.name {
+                "refused 1" => Some(Refusal::Truncated),
                 "refused 7" => Some(Refusal::TooManyStates),
                 "unrealizable" => Some(Refusal::Unrealizable),
                 _ => None,
