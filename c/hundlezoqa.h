@@ -9,11 +9,13 @@
  * - A parameter with a size in brackets is memory of that size, which may be read and written.
  * - Each is aligned for its type and not null, also where the length is 0.
  * - No two memories of a call overlap, be they written or only read.
- * - No memory of a call is read or written by another thread while the call lasts.
+ * - While a call lasts no other thread reads or writes what it may write, and none writes what it only reads: one table may be lent to
+ *   several calls at once.
  *
  * A wrong sheet, table, board or input is refused. A function answers HZ_OK or the number of a refusal, and of several grounds the
  * one that is named first. It always ends. It keeps no pointer and no state of its own, so that threads may call at once, each with
- * its own memory. Of the C library it needs memcpy and memset.
+ * its own memory. Of the C library it needs memcpy and memset, of the stack some 26 KB for hz_forecast and under 2 KB for every
+ * other function (measured, not proved).
  *
  * hz_supervisor, hz_guard, hz_card and hz_play, at the end of this file, make the same calls with less to write.
  *
@@ -196,12 +198,16 @@ uint32_t hz_forced(const uint8_t *sheet, size_t sheet_len,
  * call is refused. */
 
 /* Loads a guard table and begins a run. Its rows are all of one kind: 17 with at most 256 states, or 20 with any number.
- * Refused: HZ_OCCUPIED, HZ_BAD_TABLE. The board holds no pointer to the table: every step is lent it. */
+ * Refused: HZ_OCCUPIED, HZ_BAD_TABLE. The board holds no pointer to the table: every step is lent it. The monitors begin in their
+ * start states: LOAD ONLY WHEN THE DEVICE IS AS AT THE START (hz_rewind says why). */
 uint32_t hz_load(uint8_t board[HZ_STATIC(HZ_BOARD_BYTES)], const uint8_t *table, size_t table_len);
 
 /* Answers an input by an output and moves on, by the table that was loaded. The answer has the number in its low 16
  * bits and the output above: number + 65536 * output. Refused: HZ_EMPTY, HZ_SPENT, HZ_BAD_INPUT, HZ_BAD_TABLE.
- * The output 0 of a refused step is NO OUTPUT TO DRIVE: hold the last one, or the device's safe one. */
+ * It looks at the table's length, at the kind of its first row and at the one entry that it reads: that the table is the one that was
+ * loaded, unaltered, is the caller's to see to.
+ * The output 0 of a refused step is NO OUTPUT TO DRIVE: drive the device's safe one. To hold the last one is a step more, which no
+ * guard has judged: a lock that must not be open twice running would be held open. */
 uint32_t hz_step(uint8_t board[HZ_STATIC(HZ_BOARD_BYTES)], const uint8_t *table, size_t table_len, uint8_t input);
 
 #define HZ_STEP_NUMBER(answer) ((uint32_t)(answer) & 0xFFFFu)
@@ -209,8 +215,8 @@ uint32_t hz_step(uint8_t board[HZ_STATIC(HZ_BOARD_BYTES)], const uint8_t *table,
 
 /* Begins the run anew. Refused: HZ_EMPTY.
  * The monitors begin anew too, and what the device did is forgotten: a lock that never opens twice running, opened at step
- * 1,000,000, refused HZ_SPENT and rewound, may open again at once. So REWIND ONLY WHEN THE DEVICE IS AS AT THE START; the same of
- * hz_unload and hz_load. */
+ * 1,000,000, refused HZ_SPENT and rewound, may open again at once. So REWIND ONLY WHEN THE DEVICE IS AS AT THE START (a lock
+ * closed, a washer at rest: what the sheet's start states stand for); the same of hz_unload and hz_load, also after a power cut. */
 uint32_t hz_rewind(uint8_t board[HZ_STATIC(HZ_BOARD_BYTES)]);
 
 /* Empties the board. Refused: HZ_EMPTY. */
@@ -251,6 +257,7 @@ struct hz_made {
     size_t states;
 };
 
+/* For the functions below. */
 static inline struct hz_made hz_reported(uint32_t number, const uint64_t figures[HZ_STATIC(HZ_FIGURES)])
 {
     struct hz_made made;

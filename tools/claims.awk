@@ -125,10 +125,10 @@ function rests(    i, n, path, direct, whole, said, count, sum) {
     count = sum = 0
     for (i = 1; i <= known; i++) {
         path = read_order[i]
-        if (path in direct) said = said (said == "" ? "" : ", ") short(path) " " lines[path]
+        if (path in direct && !(path in told)) { said = said (said == "" ? "" : ", ") short(path) " " lines[path]; told[path] }
         if (path in whole) { count++; sum += lines[path] }
     }
-    return "Rests on " said ". With what these import: " count (count == 1 ? " file, " : " files, ") sum " lines."
+    return "Rests on " (said == "" ? "files named above" : said) ". With those named above and what all import: " count " files, " sum " lines."
 }
 
 # Adds the Meaning files that a file imports to a set, and goes through imports of this layer.

@@ -1,4 +1,5 @@
-// The public calls for programs in other languages: each is one call of a crate below, and its promise is that call's.
+// The public calls for programs in other languages: each is one call of a crate below, and its promise is that call's; the guard's has
+// demand 3 once more, over boards that are bytes.
 // A slice crosses as a pointer and a length, a board as 16 bytes, a card as 1,025 words, an answer as document 01's number.
 // An array crosses as a pointer alone. So each name ends in its array's size: a program that was compiled for another does not link.
 use board_bytes::BoardBytes;

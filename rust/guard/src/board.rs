@@ -51,6 +51,9 @@ impl Board {
 
     /// Loads a table and begins a run. Refused, in this order: [`Refusal::Occupied`],
     /// [`Refusal::BadTable`].
+    ///
+    /// The monitors begin in their start states: load only when the device is as at the start
+    /// ([`Board::rewind`] says why).
     pub fn load(&mut self, table: impl AsRef<[u8]>) -> Result<(), Refusal> {
         Refusal::check(calls::load(&mut self.bytes, table.as_ref()))
     }
@@ -58,8 +61,8 @@ impl Board {
     /// Answers an input by an output and moves on. Refused, in this order: [`Refusal::Empty`],
     /// [`Refusal::Spent`], [`Refusal::BadInput`], [`Refusal::BadTable`].
     ///
-    /// A refused step has no output to drive (the 0 of [`calls::step`] is none): hold the last one,
-    /// or the one that is safe.
+    /// A refused step has no output to drive (the 0 of [`calls::step`] is none): drive the device's
+    /// safe one. To hold the last one is a step more, which no guard has judged.
     #[inline]
     pub fn step(&mut self, table: impl AsRef<[u8]>, input: u8) -> Result<u8, Refusal> {
         let (number, output) = calls::step(&mut self.bytes, table.as_ref(), input);

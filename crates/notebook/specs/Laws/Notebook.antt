@@ -1,4 +1,4 @@
--- Document 01's notebook, P1 to P10, as one table, with rows for a deviation limit and for the order of letters: every row holds.
+-- Document 01's notebook, P1 to P10, as one table, with other sheets, forecasts, plays and a recovery: every row holds.
 -- Assumes nothing.
 use mathlib.Core.Path.{refl}
 use mathlib.Core.List.{List, [], _∷_}

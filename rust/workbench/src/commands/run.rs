@@ -25,9 +25,9 @@ lines and what comes after # are passed over. Each call is answered by a line: t
 state, the steps and the deviations; or the refusal. A line that cannot be read calls nothing, and is told
 on standard error. The run goes on after both, and then exits 1 at the end. FILE cannot be - here.
 
-For a board that drives a device: rewind, or unload and load, begins the monitors anew and forgets what
-the device did, so rewind only when it is as at the start. A refused step has no output to drive: hold the
-last one, or the one that is safe.
+For a board that drives a device: rewind, and every load, begins the monitors anew and forgets what the
+device did, so load and rewind only when it is as at the start. A refused step has no output to drive:
+drive the one that is safe, since to hold the last one is a step that no guard has judged.
 ",
     files: 1,
     options: &[],

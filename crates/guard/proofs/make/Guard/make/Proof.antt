@@ -1,4 +1,4 @@
--- `guard::make::Guard::make`: the whole promise from the answer by the model, and each slice cleared. Assumes nothing.
+-- `guard::make::Guard::make`: the whole promise from the answer by the model. Assumes nothing.
 use mathlib.Core.Path.{sym, _∙_, subst}
 use mathlib.Core.Bool.{Bool}
 use native.Mathlib.Omega.{arith}
