@@ -1,6 +1,6 @@
 -- The whole promise, from the answer by the model.
 -- Assumes nothing.
-use mathlib.Core.Path.{_≡_, refl, sym, ap, _∙_, subst}
+use mathlib.Core.Path.{_≡_, refl, sym, ap, fun-ext, _∙_, subst}
 use mathlib.Core.Bool.{false}
 use mathlib.Core.List.{List, _++_}
 use Prim.Native.Nat.{ℕ, _+_, _≤_}
@@ -48,7 +48,7 @@ size-most d head few = mul-le-mul {m₂ = 3 + maxOuts} few (omega (arith, output
 module _
     {s before : List ℕ} {r : Forced} {after : List ℕ} (lent : List ℕ) (plays : Plays (longEnough forcedWork lent) s before r after)
     (same : (d : Decoded) → IsSheet s d → sheetOf s ≡ d)
-    (order : InOrder 23 Realizable Unrealizable forcedSize (longEnough forcedWork lent) s (length before) (playNumber r))
+    (order : InOrder 23 Realizable Unrealizable (λ d. length (forcedOf d)) (longEnough forcedWork lent) s (length before) (playNumber r))
   where
     -- what the answer of a sheet says
     says : (d : Decoded) → IsSheet s d → (TooMany d → ⊥) → ShowsPlay d (stateCount d) (forcedOf d)
@@ -60,18 +60,16 @@ module _
         let found = order .exactly .0 e in
         let one : found .0 ≡ d = sym (same (found .0) (found .1)) ∙ same d x in
         let few : TooMany d → ⊥ = subst (λ (y : Decoded). TooMany y → ⊥) one (found .2) in
-        let room : forcedSize d ≤ length before = subst (λ (y : Decoded). forcedSize y ≤ length before) one (found .5) in
-        let size : playLength r ≡ forcedSize d = plays .size ∙ rw e (ap forcedSize (same d x)) in
+        let room : length (forcedOf d) ≤ length before = subst (λ (y : Decoded). length (forcedOf y) ≤ length before) one (found .5) in
+        let size : playLength r ≡ length (forcedOf d) = plays .size ∙ rw e (ap forcedSize (same d x)) ∙ sym (length-is d) in
         let states : playStates r ≡ stateCount d = plays .states ∙ rw e (ap stateCount (same d x)) in
-        let bytes : after ≡ forcedOf d ++ drop (forcedSize d) before =
-        plays .bytes
-        ∙ rw (e, same d x, sets-front before (forcedOf d) (omega (arith, length-is d)))
-        (ap (λ (n : ℕ). forcedOf d ++ drop n before) (length-is d)) in
+        let bytes : after ≡ forcedOf d ++ drop (length (forcedOf d)) before =
+        plays .bytes ∙ rw (e, same d x, sets-front before (forcedOf d) room) in
         let front : take (playLength r) after ≡ forcedOf d =
-        rw (size ∙ sym (length-is d), bytes) (take-append-seam (forcedOf d) (drop (forcedSize d) before)) in
+        rw (size, bytes) (take-append-seam (forcedOf d) (drop (length (forcedOf d)) before)) in
         record {
           size = size;
-          most = rw size (size-most d (x .in-bounds .head) (few-fit d few));
+          most = rw (size, length-is d) (size-most d (x .in-bounds .head) (few-fit d few));
           states = states;
           bytes = bytes;
           shows = rw (states, front) (says d x few);
@@ -116,6 +114,10 @@ pub forced-promise : {s before : List ℕ} {r : Forced} {after : List ℕ} (lent
     → Plays (longEnough forcedWork lent) s before r after → MakesForced s before lent r after
 forced-promise {s} {before} {r} lent bytes plays =
     forced-makes lent plays (only-is (only-sheet s))
-    (orders-bytes held-stops forcedSize (longEnough forcedWork lent) s (length before) (playNumber r) (plays .number) bytes)
+    (subst
+    (λ (size : Decoded → ℕ).
+    InOrder 23 Realizable Unrealizable size (longEnough forcedWork lent) s (length before) (playNumber r))
+    (fun-ext (λ d. sym (length-is d)))
+    (orders-bytes held-stops forcedSize (longEnough forcedWork lent) s (length before) (playNumber r) (plays .number) bytes))
     (λ e. order-else held-stops forcedSize (longEnough forcedWork lent) s (length before) (playNumber r) (plays .number)
     (omega arith) (λ q. omega arith) (λ q. omega arith) (λ q. omega arith))

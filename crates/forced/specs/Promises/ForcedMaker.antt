@@ -18,7 +18,7 @@ use Rattle.solve.specs.Promises.RefusalOrder.{InOrder}
 use Rattle.solve.specs.Promises.OpeningWork.{openingWork, workMost}
 use Rattle.forced.specs.Meaning.Answer.{playNumber, playLength, playStates}
 use Rattle.forced.specs.Meaning.Play.{ForcedFrom, HoldsOut, Realizable}
-use Rattle.forced.specs.Model.ForcedOfSheet.{forcedOf, forcedSize, Plays}
+use Rattle.forced.specs.Model.ForcedOfSheet.{forcedOf, Plays}
 use Rattle.forced.specs.declared.answer.Forced.{Forced}
 
 -- ---- work memory
@@ -67,10 +67,10 @@ pub record ShowsPlay (d : Decoded) (n : ℕ) (bytes : List ℕ) : Type 0 where
 
 -- what was written: the answer, then what the result held before, and its figures
 pub record Played (d : Decoded) (before : List ℕ) (r : Forced) (after : List ℕ) : Type 0 where
-  pub size : playLength r ≡ forcedSize d
+  pub size : playLength r ≡ length (forcedOf d)
   pub most : playLength r ≤ forcedLength maxOuts maxStates
   pub states : playStates r ≡ stateCount d
-  pub bytes : after ≡ forcedOf d ++ drop (forcedSize d) before
+  pub bytes : after ≡ forcedOf d ++ drop (length (forcedOf d)) before
   -- of the bytes that were written
   pub shows : ShowsPlay d (playStates r) (take (playLength r) after)
 
@@ -82,8 +82,9 @@ pub record Unplayed (before : List ℕ) (r : Forced) (after : List ℕ) : Type 0
 
 pub record MakesForced (s before lent : List ℕ) (r : Forced) (after : List ℕ) : Type 0 where
   pub plays : Plays (longEnough forcedWork lent) s before r after
-  -- 10, 1 to 6, 7, then 23 in the place of 8 exactly if the sheet is realizable, then 9
-  pub ordered : InOrder 23 Realizable Unrealizable forcedSize (longEnough forcedWork lent) s (length before) (playNumber r)
+  -- 10, 1 to 6, 7, then 23 in the place of 8 exactly if the sheet is realizable, then 9 exactly if the result is shorter than the answer
+  pub ordered :
+      InOrder 23 Realizable Unrealizable (λ d. length (forcedOf d)) (longEnough forcedWork lent) s (length before) (playNumber r)
   pub never-eight : playNumber r ≡ 8 → ⊥
   pub played : playNumber r ≡ 0 → (d : Decoded) → IsSheet s d → Played d before r after
   pub unplayed : (playNumber r ≡ 0 → ⊥) → Unplayed before r after
