@@ -1,8 +1,9 @@
 -- The maker's answer for a sheet, told, is what is printed for it; and it fits the text memory.
 -- Assumes nothing.
 use mathlib.Core.Path.{_≡_, refl, sym, ap, ap₂, _∙_, subst}
-use mathlib.Core.Bool.{Bool, true, false, cond}
+use mathlib.Core.Bool.{Bool, true, false, cond, false≢true}
 use mathlib.Core.List.{List}
+use mathlib.Core.Logic.{⊎-elim}
 use Prim.Native.Nat.{ℕ, zero, suc, _≤_, _<_}
 use native.Mathlib.Omega.{arith}
 use lib.Dec.{ltb, eqb}
@@ -226,27 +227,36 @@ prints-long s h p =
 
 -- ---- by how much was read
 
--- with room left over, the input is what was read
-all-read : {w memory : List ℕ} {size : ℕ} → ReadInto w memory size → size < length memory → take size memory ≡ w
-all-read {w} {size = size} read h = read .front ∙ take-all size w (omega (arith, read .ended h))
+-- where the end was seen, the input is what was read
+all-read : {w memory : List ℕ} {size : ℕ} {ended : Bool} → ReadInto w memory size ended → ended ≡ true → take size memory ≡ w
+all-read {w} {size = size} read e = read .front ∙ take-all size w (omega (arith, read .end e))
 
--- the memory has room for one byte more than a sheet
-pub short-read : (memory : List ℕ) {size : ℕ} {before : List ℕ} {r : ℕ} {after : List ℕ} → size ≤ sheetMost → sheetMost < length memory
-    → PrintsGuard (take size memory) before r after → PrintsRead memory size before r after
+pub short-read : (memory : List ℕ) {size : ℕ} {ended : Bool} {before : List ℕ} {r : ℕ} {after : List ℕ} → size ≤ sheetMost
+    → size ≤ length memory → ended ≡ true → PrintsGuard (take size memory) before r after → PrintsRead memory size ended before r after
 unfolding readText
-short-read memory {size} {before} {r} {after} h room p =
-    let short : length (take size memory) ≤ sheetMost = omega (arith, length-take-le size memory (omega arith)) in
+short-read memory {size} {before = before} {r} {after} h room e p =
+    let short : length (take size memory) ≤ sheetMost = omega (arith, length-take-le size memory room) in
     record {
-      prints = rw (le-ltb sheetMost size h) (p .prints);
-      whole = λ w read.
-          subst (λ (s : List ℕ). PrintsSheet s before r after) (all-read read (omega arith)) (prints-guard (take size memory) short p);
+      prints = rw (le-ltb sheetMost size h, e) (p .prints);
+      whole = λ w read _.
+          subst (λ (s : List ℕ). PrintsSheet s before r after) (all-read read e) (prints-guard (take size memory) short p);
     }
 
-pub long-read : (memory : List ℕ) {size : ℕ} {before : List ℕ} {r : ℕ} {after : List ℕ} → sheetMost < size
-    → Prints tooLongText before r after → PrintsRead memory size before r after
+-- the memory has room for one byte more than a sheet: it is not full
+pub cut-read : (memory : List ℕ) {size : ℕ} {ended : Bool} (before : List ℕ) → size ≤ sheetMost → sheetMost < length memory
+    → ended ≡ false → PrintsRead memory size ended before 0 before
+unfolding readText
+cut-read memory {size} before h room e =
+    record {
+      prints = rw (le-ltb sheetMost size h, e) record { size = refl; bytes = refl; inside = omega arith };
+      whole = λ w read. ⊎-elim (λ seen. absurd (false≢true (sym e ∙ seen))) (λ full. absurd (omega arith));
+    }
+
+pub long-read : (memory : List ℕ) {size : ℕ} {ended : Bool} {before : List ℕ} {r : ℕ} {after : List ℕ} → sheetMost < size
+    → Prints tooLongText before r after → PrintsRead memory size ended before r after
 unfolding readText
 long-read memory {size} h p =
     record {
       prints = rw (lt-ltb sheetMost size h) p;
-      whole = λ w read. prints-long w (omega (arith, read .held)) p;
+      whole = λ w read _. prints-long w (omega (arith, read .held)) p;
     }

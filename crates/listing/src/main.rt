@@ -17,21 +17,32 @@ impl Listing {
 
 fn main() {
     let mut memory = [0u8; Listing::READ];
+    let mut next = [0u8; 1];
     let mut text = [0u8; Report::TEXT];
     let size = io::read_full(STDIN_FILENO, &mut memory);
-    let length = print(&memory, size, &mut text);
+    // 0 at the end of the input alone: neither where a read fails nor where there is more.
+    let more = libc::read(STDIN_FILENO, &mut next);
+    let length = print(&memory, size, more == 0, &mut text);
     io::write_all(STDOUT_FILENO, &text[..length]);
 }
 
-// What is printed for what was read, `size` bytes at the start of the memory; answers the text's length. Room left over says that the
-// end was seen.
-fn print(memory: &[u8; Listing::READ], size: usize, text: &mut [u8; Report::TEXT]) -> usize
-    ensures { λ r. ⌜ PrintsRead (now (memory .entry)) size (now (text .entry)) r (now (text .exit)) ⌝ }
+// What is printed for what was read, `size` bytes at the start of the memory; `ended` says that the end was seen behind them. Answers the
+// text's length: 0, and nothing is printed, where the end was not seen and they are no more than a sheet's.
+fn print(
+    memory: &[u8; Listing::READ],
+    size: usize,
+    ended: bool,
+    text: &mut [u8; Report::TEXT],
+) -> usize
+    ensures { λ r. ⌜ PrintsRead (now (memory .entry)) size ended (now (text .entry)) r (now (text .exit)) ⌝ }
 {
     if Listing::SHEET < size {
         return Report::too_long(text).length();
     }
     let read = &memory[..];
+    if !ended {
+        return 0;
+    }
     print_guard(&read[..size], text)
 }
 

@@ -11,6 +11,12 @@ slice-aggregate-read-full c = search needs
 read-full-requires : tie.Need-read-full-requires
 read-full-requires c κs = search needs
 
+slice-aggregate-read : tie.Need-slice-aggregate-read
+slice-aggregate-read c = search needs
+
+read-requires : tie.Need-read-requires
+read-requires c κs = search needs
+
 print-requires : tie.Need-print-requires
 print-requires c κs = search needs
 
@@ -32,6 +38,8 @@ main-spec =
     (tie.spec
     slice-aggregate-read-full
     read-full-requires
+    slice-aggregate-read
+    read-requires
     print-requires
     array-share-prefix-text
     slice-aggregate-write-all

@@ -1,8 +1,9 @@
 -- What the listing program prints for a sheet (document 01, 'Notebook sheets'), for all bytes on its standard input.
 -- Assumes nothing.
 use mathlib.Core.Path.{_≡_}
-use mathlib.Core.Bool.{cond}
-use mathlib.Core.List.{List}
+use mathlib.Core.Bool.{Bool, true, cond}
+use mathlib.Core.List.{List, []}
+use mathlib.Core.Logic.{_⊎_}
 use Prim.Native.Nat.{ℕ, _≤_, _<_}
 use lib.Dec.{ltb, leb, eqb}
 use lib.ListN.{length, take}
@@ -60,19 +61,19 @@ pub record PrintsSheet (s before : List ℕ) (r : ℕ) (after : List ℕ) : Type
 
 -- ---- of what was read
 
--- a memory into which the input `whole` was read: as many of its bytes as there are, or as there is room for, at its start; room left
--- over says that the end was seen
-pub record ReadInto (whole memory : List ℕ) (size : ℕ) : Type 0 where
+-- a memory into which the input `whole` was read: `size` of its bytes at its start; `ended` says that the end was seen behind them
+pub record ReadInto (whole memory : List ℕ) (size : ℕ) (ended : Bool) : Type 0 where
   pub room : size ≤ length memory
   pub held : size ≤ length whole
   pub front : take size memory ≡ take size whole
-  pub ended : size < length memory → length whole ≡ size
+  pub end : ended ≡ true → length whole ≡ size
 
--- what is printed for the `size` bytes at the start of a memory
-unfoldable pub readText : List ℕ → ℕ → List ℕ
-readText memory size = cond (ltb sheetMost size) tooLongText (guardText (take size memory))
+-- what is printed for the `size` bytes at the start of a memory: nothing where there may be more of the sheet
+unfoldable pub readText : List ℕ → ℕ → Bool → List ℕ
+readText memory size ended = cond (ltb sheetMost size) tooLongText (cond ended (guardText (take size memory)) [])
 
--- by equation, for all arguments; and of every input that may have been read so: what is due for the whole of it
-pub record PrintsRead (memory : List ℕ) (size : ℕ) (before : List ℕ) (r : ℕ) (after : List ℕ) : Type 0 where
-  pub prints : Prints (readText memory size) before r after
-  pub whole : (w : List ℕ) → ReadInto w memory size → PrintsSheet w before r after
+-- by equation, for all arguments; and of every input that may have been read so, if its end was seen or the memory is full: what is
+-- due for the whole of it
+pub record PrintsRead (memory : List ℕ) (size : ℕ) (ended : Bool) (before : List ℕ) (r : ℕ) (after : List ℕ) : Type 0 where
+  pub prints : Prints (readText memory size ended) before r after
+  pub whole : (w : List ℕ) → ReadInto w memory size ended → (ended ≡ true) ⊎ (size ≡ length memory) → PrintsSheet w before r after
