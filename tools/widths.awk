@@ -5,30 +5,48 @@ BEGIN {
     for (i = 1; i in pair; i += 2) size[pair[i]] = pair[i + 1]
 }
 
-FNR == 1 { name = ""; split(FILENAME, path, "/"); crate = path[2] }
+FNR == 1 { name = top = ""; importing = 0; split(FILENAME, path, "/"); crate = path[2] }
 
 # ---- definitions: 'name parameters = body', and what is indented below
 
 FILENAME ~ /\.antt$/ {
-    if (match($0, /^ +pub [a-z-]+ : askedBytes [A-Za-z]+/)) {
-        n = split(substr($0, RSTART, RLENGTH), word, " ")
-        asked[crate] = asked[crate] " " word[n]
+    if (/\{-/) wrong(FILENAME ": a comment that is not of lines, which this tool does not read")
+    sub(/(^|[ \t])--.*/, "")
+    if (importing || /^ *((unfoldable|pub|abbrev) +)*use /) {
+        importing = importing ? !/\}/ : /\{[^}]*$/
+        next
     }
-    if (/^[a-z][A-Za-z0-9-]*( [a-z][A-Za-z]*)* = / || /^[a-z][A-Za-z0-9-]*( [a-z][A-Za-z]*)* =$/) {
+    # a clause that bounds the bytes of a list, in this form and no other
+    if (FILENAME ~ /\/Promises\// && /askedBytes/) {
+        if (/^ +pub [a-z-]+ : askedBytes [A-Za-z]+ ≤ workMost *$/) asked[crate] = asked[crate] " " $5
+        else wrong(FILENAME ": a clause about askedBytes that is not 'pub NAME : askedBytes LIST ≤ workMost':" $0)
+    }
+    # what a promise is made of, and whose it is
+    if (match($0, /^((unfoldable|abbrev) )?pub (record )?[A-Z][A-Za-z]*/)) {
+        top = substr($0, RSTART, RLENGTH)
+        sub(/.* /, "", top)
+        if (FILENAME ~ /\/Promises\//) owner[top] = owner[top] " " crate
+    }
+    n = split($0, word, /[^A-Za-z]+/)
+    for (i = 1; i <= n; i++) if (word[i] ~ /^Makes[A-Z]/ && word[i] != top) parts[top] = parts[top] " " word[i]
+
+    if (/^ *[a-z][A-Za-z0-9-]*( [a-z][A-Za-z]*)* =( |$)/) defined[$1]++
+    if (/^[a-z][A-Za-z0-9-]*( [a-z][A-Za-z]*)* =( |$)/) {
         at = index($0, "=")
         name = $1
         parameters[name] = substr($0, length(name) + 1, at - length(name) - 1)
         body[name] = substr($0, at + 1)
     } else if (name != "" && /^ /) body[name] = body[name] " " $0
-    else name = ""
+    else if (/[^ ]/) name = ""
     next
 }
 
 # ---- code: a function's head is all before its body
 
-/^ *pub (extern "C" )?fn / { head = ""; inside = 1 }
+{ sub(/\/\/.*/, ""); gsub(/[ \t]+/, " ") }
+/^ ?pub (.* )?fn / { head = ""; inside = 1 }
 inside { head = head " " $0 }
-inside && /\{ *$/ && !/^ *(ensures|requires)/ { inside = 0; judge(head) }
+inside && /\{ ?$/ && !/^ ?(ensures|requires)/ { inside = 0; gsub(/ +/, " ", head); judge(head) }
 
 END {
     for (c in asked) if (!(c in makers)) wrong(c " promises the bytes of" asked[c] ", and no pub fn of it lists the lengths that it was lent")
@@ -36,19 +54,20 @@ END {
 }
 
 # A maker lists the lengths that it was lent: length (now (NAME .entry)) ∷ .. ∷ []
-function judge(head,    fn, text, lent, n, i, list, widths, m, said, clause, from, type) {
+function judge(head,    fn, text, lent, n, i, list, widths, m, said, clause, promise, from) {
     fn = head
-    sub(/^.*pub (extern "C" )?fn /, "", fn)
+    sub(/^.*pub (.* )?fn /, "", fn)
     sub(/[^a-z0-9_].*/, "", fn)
     text = head
     gsub(/∷/, ":", text)
     n = 0
-    while (match(text, /length \(now \([a-z0-9_]+ \.entry\)\) +:/)) {
+    while (match(text, /length \(now \([a-z0-9_]+ \.entry\)\) ?:/)) {
         list = substr(text, RSTART, RLENGTH)
         if (n && substr(text, 1, RSTART) ~ /ensures/) {
             wrong(crate "::" fn " lists lengths in more than one clause")
             return
         }
+        if (!n) promise = substr(text, 1, RSTART)
         text = substr(text, RSTART + RLENGTH)
         sub(/^length \(now \(/, "", list)
         sub(/ .*/, "", list)
@@ -57,43 +76,74 @@ function judge(head,    fn, text, lent, n, i, list, widths, m, said, clause, fro
     }
     if (!n) return
     makers[crate]
-    # what the clause says after the list: the result's memory, where there is one
+    # what the clause says before the list, and after it: the promise, and the result's memory where there is one
+    sub(/.*⌜ ?/, "", promise)
+    sub(/[^A-Za-z].*/, "", promise)
     clause = text
     sub(/ensures.*/, "", clause)
-    from = asked[crate]
-    sub(/^ /, "", from)
-    if (from ~ / /) { wrong(crate " promises the bytes of more than one list:" asked[crate]); return }
-    m = split(spread(body[from]), widths, " ")
+    from = list_of(fn, promise)
+    if (from == "") return
+    take_parameters(head, fn)
+    unread = 0
+    m = split(spread(from), widths, " ")
+    if (unread) return
     said = ""
     for (i = 1; i <= n || i <= m; i++) {
-        type = i <= n ? type_of(head, lent[i]) : "none"
-        said = said (i > 1 ? ", " : "") (i <= n ? lent[i] : "nothing") " " type " " (i <= m ? widths[i] : "unlisted")
-        if (i > n || i > m || size[type] != widths[i])
-            wrong(crate "::" fn ": " (i <= n ? lent[i] " is a slice of " type : "there is no slice " i) ", and " from " has " \
+        if (i <= n && !(lent[i] in element)) element[lent[i]] = "none"
+        said = said (i > 1 ? ", " : "") (i <= n ? lent[i] " " element[lent[i]] : "nothing") " " (i <= m ? widths[i] : "unlisted")
+        if (i > n || i > m || size[element[lent[i]]] != widths[i])
+            wrong(crate "::" fn ": " (i <= n ? lent[i] " is a slice of " element[lent[i]] : "there is no slice " i) ", and " from " has " \
                 (i <= m ? widths[i] " bytes an element" : "no slice") " in its place")
     }
     printf "%12s::%s  %s\n", crate, fn, said
-    beside(head, fn, clause)
+    # every memory that may be written is in the list, or its contents afterwards are the promise's
+    for (i in written)
+        if (listed[i] != crate " " fn && index(clause, "(now (" i " .exit))") == 0)
+            wrong(crate "::" fn ": " i " is lent, and neither in the list of work memory nor the promise's result")
 }
 
-# Every `&mut` slice is in the list, or its contents afterwards are the promise's.
-function beside(head, fn, clause,    slice) {
-    while (match(head, /[a-z0-9_]+: &mut \[/)) {
-        slice = substr(head, RSTART, RLENGTH)
-        head = substr(head, RSTART + RLENGTH)
-        sub(/:.*/, "", slice)
-        if (listed[slice] != crate " " fn && index(clause, "(now (" slice " .exit))") == 0)
-            wrong(crate "::" fn ": " slice " is lent, and neither in the list of work memory nor the promise's result")
+# The list that a maker's promise bounds: its crate's own, or where that has none, the one of the maker that its promise is made of.
+function list_of(fn, promise,    from, whose) {
+    whose = crate
+    if (!(crate in asked)) {
+        whose = one(parts[promise])
+        whose = one(owner[whose])
     }
+    if (!(whose in asked)) {
+        wrong(crate "::" fn " lists the lengths that it was lent, and no promise of it bounds their bytes (pub NAME : askedBytes LIST ≤ workMost)")
+        return ""
+    }
+    from = one(asked[whose])
+    if (from == "") wrong(whose " promises the bytes of more than one list:" asked[whose])
+    return from
 }
 
-# The element type of a parameter that is a slice.
-function type_of(head, slice,    type) {
-    if (!match(head, "[( ]" slice ": &mut \\[[a-z0-9]+\\]")) return "no&mut"
-    type = substr(head, RSTART, RLENGTH)
-    sub(/.*\[/, "", type)
-    sub(/\]$/, "", type)
-    return type
+# The word of a text that has only one.
+function one(text,    word) { return split(text, word, " ") == 1 ? word[1] : "" }
+
+# The parameters of a function, as `element` and `written`: what is read, slices and arrays that may be written, and nothing else.
+function take_parameters(head, fn,    text, part, n, i, p, type) {
+    split("", element)
+    split("", written)
+    text = head
+    sub(/^.*pub (.* )?fn [a-z0-9_]+/, "", text)
+    text = substr(text, 2, closes(text) - 2)
+    n = cut(text, ",", part)
+    for (i = 1; i <= n; i++) {
+        p = part[i]
+        gsub(/^ | $/, "", p)
+        if (p ~ /^[a-z0-9_]+: &\[[a-z0-9]+\]$/) continue
+        if (p !~ /^[a-z0-9_]+: &mut \[[a-z0-9]+(; [A-Za-z0-9_:]+)?\]$/) {
+            wrong(crate "::" fn ": a parameter that is neither a slice nor an array: " p)
+            continue
+        }
+        type = p
+        sub(/:.*/, "", p)
+        written[p]
+        gsub(/.*\[|\]$/, "", type)
+        # an array is no work memory
+        element[p] = type ~ /;/ ? "array" : type
+    }
 }
 
 # ---- a list of slices, spread into its widths
@@ -112,12 +162,17 @@ function spread_part(text,    word, n, i, known, inner, given) {
     if (text == "" || text == "[]") return ""
     if (text ~ /^\(/ && closes(text) == length(text)) return spread(substr(text, 2, length(text) - 2))
     n = cut(text, " ", word)
-    if (!(word[1] in body)) { wrong("a list of slices names " word[1] ", which has no definition that can be read"); return "" }
+    if (!(word[1] in body)) { unreadable("a list of slices names " word[1] ", which has no definition that can be read"); return "" }
+    if (defined[word[1]] != 1) { unreadable("a list of slices names " word[1] ", which is defined " defined[word[1]] " times"); return "" }
     inner = body[word[1]]
     # a slice: record { width = N; asked = .. }
-    if (match(inner, /width = [0-9]+/)) return substr(inner, RSTART + 8, RLENGTH - 8)
+    if (inner ~ /record|width/) {
+        if (inner ~ /^ *record \{ width = [0-9]+; asked = [^;{}]+ \} *$/) { sub(/;.*/, "", inner); sub(/.*= /, "", inner); return inner }
+        unreadable(word[1] " is no 'record { width = NUMBER; asked = .. }':" inner)
+        return ""
+    }
     known = split(parameters[word[1]], given, " ")
-    if (known != n - 1) { wrong(word[1] " is given " n - 1 " arguments and takes " known); return "" }
+    if (known != n - 1) { unreadable(word[1] " is given " n - 1 " arguments and takes " known); return "" }
     for (i = 1; i <= known; i++) inner = put(inner, given[i], word[i + 1])
     return spread(inner)
 }
@@ -162,7 +217,14 @@ function closes(text,    i, depth, letter) {
     return 0
 }
 
+function unreadable(what) {
+    unread = 1
+    wrong(what)
+}
+
+# Says it, once.
 function wrong(what) {
-    print tool ": " what > "/dev/stderr"
+    if (!(what in told)) print tool ": " what > "/dev/stderr"
+    told[what]
     status = 1
 }
