@@ -204,6 +204,8 @@ uint32_t hz_load(uint8_t board[HZ_STATIC(HZ_BOARD_BYTES)], const uint8_t *table,
 
 /* Answers an input by an output and moves on, by the table that was loaded. The answer has the number in its low 16
  * bits and the output above: number + 65536 * output. Refused: HZ_EMPTY, HZ_SPENT, HZ_BAD_INPUT, HZ_BAD_TABLE.
+ * C cuts a larger number to the byte `input` before the call, so that 256 is answered as 0 and not refused: hold what is wider against
+ * 2^inputs first.
  * It looks at the table's length, at the kind of its first row and at the one entry that it reads: that the table is the one that was
  * loaded, unaltered, is the caller's to see to.
  * The output 0 of a refused step is NO OUTPUT TO DRIVE: drive the device's safe one. To hold the last one is a step more, which no

@@ -53,6 +53,18 @@ static unsigned long steps(void)
     return board[8] | (unsigned long)board[9] << 8 | (unsigned long)board[10] << 16 | (unsigned long)board[11] << 24;
 }
 
+/* Answers a tray by an output and prints it, or says that the step was refused. On a refusal there is no output to drive: a lock would be
+ * held closed here. */
+static int step(size_t length, uint8_t tray)
+{
+    uint32_t answer = hz_step(board, table, length, tray);
+
+    if (refused("hz_step", HZ_STEP_NUMBER(answer)))
+        return 1;
+    printf("tray %d: open %lu\n", tray, (unsigned long)HZ_STEP_OUTPUT(answer));
+    return 0;
+}
+
 /* An average of the card, from its bits. */
 static double average(uint64_t bits)
 {
@@ -102,7 +114,7 @@ static uint32_t forced(void)
 
 int main(void)
 {
-    static const uint8_t trays[] = {1, 1, 1, 0, 1};
+    static const uint8_t trays[] = {1, 1, 1, 0, 1, 0};
     struct hz_made made;
     uint64_t written;
     size_t i;
@@ -122,13 +134,9 @@ int main(void)
 
     if (refused("hz_load", hz_load(board, table, made.length)))
         return 1;
-    for (i = 0; i < LENGTH(trays); i++) {
-        answer = hz_step(board, table, made.length, trays[i]);
-        /* On a refusal there is no output to drive: a lock would be held closed here. */
-        if (refused("hz_step", HZ_STEP_NUMBER(answer)))
+    for (i = 0; i < LENGTH(trays); i++)
+        if (step(made.length, trays[i]))
             return 1;
-        printf("tray %d: open %lu\n", trays[i], (unsigned long)HZ_STEP_OUTPUT(answer));
-    }
     printf("%lu steps\n", steps());
 
     /* One line has no input 2: the step is refused, and the board is as it was. */
@@ -137,6 +145,13 @@ int main(void)
         return 1;
     refused("hz_step", HZ_STEP_NUMBER(answer));
     printf("%lu steps\n", steps());
+
+    /* The lock is closed, as at the start: the run may begin anew. */
+    if (refused("hz_rewind", hz_rewind(board)))
+        return 1;
+    printf("%lu steps\n", steps());
+    if (step(made.length, 1))
+        return 1;
 
     if (refused("hz_unload", hz_unload(board)))
         return 1;

@@ -54,6 +54,10 @@ BEGIN {
 
 # ---- what is looked at
 
+# A code block is quoted from a file: one that is met here has no marker before it that is read above.
+FILENAME ~ /CLAIMS/ && /^[> \t]*(```|~~~)|^(    |\t)|<pre|<code/ { wrong(FILENAME ":" NR ": a code block without a marker before it") }
+FILENAME ~ /CLAIMS/ && /<!--/ { wrong(FILENAME ":" NR ": a marker that is not known: " $0) }
+
 /^Against: / { against = 1; sub(/^Against: /, "") }
 /^$/ && against { judge_edits(); against = 0 }
 against { named = named " " $0 }
@@ -64,17 +68,18 @@ END {
     if (against) judge_edits()
     if (FILENAME ~ /CLAIMS/ && rows != 8) wrong(FILENAME ": " rows + 0 " rows of versions worth nothing, and document 01 has 8")
     for (i = 1; i <= rows; i++)
-        if (!met[row[i]]) wrong(FILENAME ": " row[i] " has no edit against it")
+        if (met[row[i]] < 2) wrong(FILENAME ": " row[i] " has " met[row[i]] + 0 " edits against it, and two are the least")
     for (name in met) if (!is_row(name)) wrong(FILENAME ": there is no row " name)
     exit status
 }
 
 # ---- definitions
 
-# The definition of a name in a file, with the comment above it, no further in than it begins.
-function print_definition(file, name,    line, text, above, kind, indent, found) {
-    above = ""
-    found = 0
+# The definition of a name in a file, with the comment above it, no further in than it begins. It lasts, blank lines and comments aside,
+# up to a line after a blank one that is no further in and no equation of the name.
+function print_definition(file, name,    line, text, above, kind, indent, found, held, apart, inner) {
+    above = held = ""
+    found = apart = 0
     while ((getline line < file) > 0) {
         text = line
         sub(/^ +/, "", text)
@@ -85,9 +90,15 @@ function print_definition(file, name,    line, text, above, kind, indent, found)
             found = 1
             indent = length(line) - length(text)
             print_in(above, indent)
-        } else if (text == "") break
-        else if (kind == "law" && (index(text, name " ") == 1 || text ~ /^unfolding /)) break
-        if (kind == "function" && text == "{") break
+        } else if (kind == "function") { if (text == "{") break }
+        else {
+            inner = length(line) - length(text) > indent
+            if (text == "" || (!inner && text ~ /^--/)) { held = held line "\n"; apart = 1; continue }
+            if (kind == "law" && (index(text, name " ") == 1 || text ~ /^unfolding /)) break
+            if (apart && !inner && index(text, name " ") != 1) break
+        }
+        print_in(held, indent)
+        held = ""
         print substr(line, indent + 1)
     }
     close(file)
@@ -154,7 +165,7 @@ function imports(file,    line, path, crate, layer, all, n) {
     all = ""
     n = 0
     while ((getline line < file) > 0) {
-        if (line !~ /^((unfoldable|ghost) )?(pub )?use Rattle/ || !match(line, /\.(Meaning|Promises)\.[A-Za-z]+/)) continue
+        if (line !~ /^ *((unfoldable|ghost|pub|abbrev) +)*use +Rattle/ || !match(line, /\.(Meaning|Promises)\.[A-Za-z]+/)) continue
         path = substr(line, RSTART + 1, RLENGTH - 1)
         sub(/\./, "/", path)
         crate = line
@@ -192,7 +203,8 @@ function judge_edits(    part, n, i, tokens, m, j, first) {
         m = split(part[i], tokens, "`")
         for (j = 2; j <= m; j += 2) {
             if (!(tokens[j] in is_edit)) wrong(FILENAME ": " tokens[j] " is no edit that must fail")
-            if (first[1] ~ /^V[0-9]+$/) met[first[1]]++
+            if (first[1] ~ /^V[0-9]+$/ && !((first[1], tokens[j]) in counted)) met[first[1]]++
+            counted[first[1], tokens[j]]
         }
     }
     named = ""

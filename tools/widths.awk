@@ -14,6 +14,11 @@ FILENAME ~ /\.antt$/ {
     sub(/(^|[ \t])--.*/, "")
     if (importing || /^ *((unfoldable|pub|abbrev) +)*use /) {
         importing = importing ? !/\}/ : /\{[^}]*$/
+        # a name that an import gives to something else
+        while (match($0, / as [a-z][A-Za-z0-9-]*/)) {
+            defined[substr($0, RSTART + 4, RLENGTH - 4)]++
+            $0 = substr($0, RSTART + RLENGTH)
+        }
         next
     }
     # a clause that bounds the bytes of a list, in this form and no other

@@ -1,6 +1,6 @@
 //! The C header against the wrapper and Rattle's source: every number and length that it defines, every
-//! function that it declares with the symbol that it is called by, and the work memory of its own
-//! functions.
+//! function that it declares with the symbol that it is called by, and its own functions whole; and the
+//! lengths of work memory that docs/MEMORY.md says.
 
 use std::collections::BTreeMap;
 
@@ -247,14 +247,14 @@ fn every_symbol_has_the_size_of_its_array() {
     assert_eq!(mapped, expected);
 }
 
-/// The fields of the header's work memory, and what stands after it.
-fn work_memory() -> (Vec<String>, String) {
+/// The fields of the header's work memory.
+fn work_memory() -> Vec<String> {
     let header = one_blank(&source("c/hundlezoqa.h"));
     let (_, rest) = header.split_once("struct hz_work { ").expect("it is there");
-    let (fields, rest) = rest.split_once(" };").expect("its end");
+    let (fields, _) = rest.split_once(" };").expect("its end");
     let mut fields: Vec<String> = fields.split("; ").map(|f| f.replace(';', "")).collect();
     fields.sort();
-    (fields, rest.to_string())
+    fields
 }
 
 /// A field for each work length, of the elements that the functions are lent.
@@ -272,18 +272,156 @@ fn every_work_length_has_a_field() {
         })
         .collect();
     expected.sort();
-    assert_eq!(work_memory().0, expected);
+    assert_eq!(work_memory(), expected);
 }
 
-/// The header's own functions lend each field by its own length.
-#[test]
-fn every_field_is_lent_whole() {
-    let (fields, own) = work_memory();
-    let lent: Vec<&str> = own.split("work->").skip(1).collect();
-    assert!(fields.len() < lent.len());
-    for lent in lent {
-        let name = lent.split(',').next().unwrap_or_default();
-        let whole = format!("{name}, HZ_WORK_{},", name.to_uppercase());
-        assert!(lent.starts_with(&whole), "{name} is lent by another length");
+/// The header's own functions, and the functions that they call.
+const OWN: [(&str, &str); 4] = [
+    ("hz_supervisor", "hz_make_supervisor"),
+    ("hz_guard", "hz_make_guard"),
+    ("hz_card", "hz_forecast"),
+    ("hz_play", "hz_forced"),
+];
+
+/// Makes of two figures an answer.
+const REPORTED: &str =
+    "struct hz_made hz_reported(uint32_t number, const uint64_t figures[HZ_STATIC(HZ_FIGURES)]) \
+    { struct hz_made made; made.number = number; made.length = (size_t)figures[0]; \
+    made.states = (size_t)figures[1]; return made; }";
+
+/// One of the header's own functions as it should be: what the function that it calls is lent, work memory
+/// from its own field by its own length, everything else by the parameter of the same name.
+fn own(name: &str, called: &str) -> String {
+    let functions = functions();
+    let (_, parameters) = functions.iter().find(|(s, _)| plain(s) == called).expect("it is there");
+    let lengths = defined();
+    let (mut given, mut lent) = (Vec::new(), Vec::new());
+    for parameter in parameters {
+        let (word, _) = parameter.split_once(": ").expect("a name and a type");
+        let length = format!("HZ_WORK_{}", word.to_uppercase());
+        if lengths.contains_key(&length) {
+            lent.push(format!("work->{word}, {length}"));
+            continue;
+        }
+        lent.push(array(parameter).map_or(format!("{word}, {word}_len"), |_| word.to_string()));
+        if word != "figures" {
+            given.push(in_c(parameter));
+        }
     }
+    let (given, call) = (given.join(", "), format!("{called}({})", lent.join(", ")));
+    if lent.last().is_some_and(|last| last == "figures") {
+        format!(
+            "struct hz_made {name}({given}, struct hz_work *work) {{ uint64_t figures[HZ_FIGURES] = {{0, 0}}; \
+            uint32_t number = {call}; return hz_reported(number, figures); }}"
+        )
+    } else {
+        format!("uint32_t {name}({given}, struct hz_work *work) {{ return {call}; }}")
+    }
+}
+
+#[test]
+fn the_header_s_own_functions_pass_on_what_they_are_given() {
+    let header = source("c/hundlezoqa.h");
+    let bare = header.split("*/").filter_map(|text| text.split("/*").next());
+    let bare = one_blank(&bare.collect::<Vec<_>>().join(" "));
+    let (bare, _) =
+        bare.rsplit_once(" #ifdef __cplusplus } #endif #endif").expect("the header's end");
+    let found: Vec<&str> = bare.split("static inline ").skip(1).map(str::trim).collect();
+    let mut expected = vec![REPORTED.to_string()];
+    expected.extend(OWN.map(|(name, called)| own(name, called)));
+    assert_eq!(found, expected);
+}
+
+/// The makers as docs/MEMORY.md names them, and their types.
+const MAKERS: [(&str, &str); 4] = [
+    ("supervisor", "Supervisor"),
+    ("guard", "Guard"),
+    ("forecast", "Forecast"),
+    ("forced", "Forcing"),
+];
+
+/// A length as docs/MEMORY.md says it: a sum of products, S being the most product states; or two
+/// such, equal.
+fn said(length: &str) -> usize {
+    let factor = |word: &str| match word {
+        "S" => rattle("Limits::STATES"),
+        number => {
+            number.replace(',', "").parse().unwrap_or_else(|_| panic!("{number} is no number"))
+        }
+    };
+    let sum = |text: &str| -> usize {
+        text.split(" + ").map(|p| p.split_whitespace().map(factor).product::<usize>()).sum()
+    };
+    let values: Vec<usize> = length.trim_end_matches(" each").split(" = ").map(sum).collect();
+    assert!(values.windows(2).all(|two| two[0] == two[1]), "{length} is not so");
+    values[0]
+}
+
+/// A number with a comma before every three figures.
+fn in_threes(number: usize) -> String {
+    match number {
+        0..1000 => number.to_string(),
+        _ => format!("{},{:03}", in_threes(number / 1000), number % 1000),
+    }
+}
+
+/// What docs/MEMORY.md says of each maker's work memory: slice, bytes of an element, and length.
+fn work_said(memory: &str, maker: &str) -> BTreeMap<String, (usize, usize)> {
+    let mut slices = BTreeMap::new();
+    for row in memory.lines().filter(|line| line.starts_with("| `")) {
+        let cells: Vec<&str> = row.split('|').map(str::trim).collect();
+        let [_, names, element, length, bytes, _, makers, _] = cells[..] else { panic!("{row}") };
+        let bits: usize = said(element.trim_end_matches(" each").trim_start_matches('u'));
+        assert_eq!(said(bytes), bits / 8 * said(length), "{row}");
+        for name in
+            names.split('`').skip(1).step_by(2).filter(|_| makers.split(", ").any(|m| m == maker))
+        {
+            let before = slices.insert(name.to_string(), (bits / 8, said(length)));
+            assert!(before.is_none(), "{name} has two rows");
+        }
+    }
+    slices
+}
+
+/// Every constant of each maker, the bytes of its elements, and what they come to.
+#[test]
+fn the_lengths_in_the_documents_are_rattle_s() {
+    let memory = source("docs/MEMORY.md");
+    let mut bytes = Vec::new();
+    for (maker, owner) in MAKERS {
+        let text = source_of(owner);
+        let element = |name: &str| {
+            let (_, rest) = text.split_once(&format!("{name}: &mut [u")).expect("a slice");
+            rest.split(']').next().and_then(|bits| bits.parse::<usize>().ok()).expect("its bits")
+                / 8
+        };
+        let names = text.split("pub const ").skip(1).filter_map(|rest| rest.split(':').next());
+        let expected: BTreeMap<String, (usize, usize)> = names
+            .map(|name| {
+                let slice = name.to_lowercase();
+                (slice.clone(), (element(&slice), rattle(&format!("{owner}::{name}"))))
+            })
+            .collect();
+        assert_eq!(work_said(&memory, maker), expected, "{maker}");
+        bytes.push(in_threes(expected.values().map(|(width, length)| width * length).sum()));
+    }
+    let [supervisor, guard, forecast, forced] = &bytes[..] else { unreachable!() };
+    assert_eq!(supervisor, forced);
+    let [states, letters, buckets, forks] =
+        ["Limits::STATES", "Limits::LETTERS", "Index::BUCKETS", "Index::FORKS"].map(rattle);
+    let memory = one_blank(&memory);
+    for sentence in [
+        format!("product states S = {states} and of letters {letters} (`Limits`)"),
+        format!("the buckets, {buckets}, and forks, {forks}, of the tuples' index"),
+        format!("that of plays need {supervisor} bytes, the guard's {guard}, the forecast's {forecast};"),
+        format!("= {} bytes (`Layout::MOST`", in_threes(Guard::BYTES_MOST)),
+        format!("(5 + 16) = {}; no play than 11 S = {}.", in_threes(Supervisor::BYTES_MOST), in_threes(Forced::BYTES_MOST)),
+        format!("`Report::TEXT` (41 + 101 S = {} bytes)", in_threes(rattle("Report::TEXT"))),
+        format!("into {} words (`CardWords::LENGTH`", in_threes(calls::CARD_WORDS)),
+        format!("language has {} bytes", calls::BOARD_BYTES),
+    ] {
+        assert!(memory.contains(&sentence), "docs/MEMORY.md does not say '{sentence}'");
+    }
+    let header = one_blank(&source("c/hundlezoqa.h")).replace(" * ", " ");
+    assert!(header.contains(&format!("of its own: {supervisor}, {guard} and {forecast} bytes.")));
 }
