@@ -45,9 +45,9 @@ BEGIN {
 }
 
 # After 'Ruled out': of the section's crate, and after in `x`: of that one.
-sub(/.*Ruled out/, "") {
+match($0, /[Rr]uled out/) {
     within = meant
-    n = split($0, token, "`")
+    n = split(substr($0, RSTART), token, "`")
     for (i = 2; i <= n; i += 2) {
         if (token[i] in is_crate) { if (token[i + 1] ~ /^:/) within = token[i] }
         else if (token[i] ~ /^[a-z0-9]+(_[a-z0-9]+)+$/) judge(token[i], within)
