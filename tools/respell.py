@@ -137,7 +137,9 @@ def turn(path, rows):
         new, inside = [], False
         for line in text.split("\n"):
             code, sep, comment = line.partition("//")
-            new.append(turned(code, rows, True) + sep + re.sub(r"`[^`]*`", lambda m: turned(m[0], rows, True), turned(comment, rows, False)))
+            # A lemma that gives way to its function is named like a function of Rust: no clause cites it.
+            here = {old: name for old, name in rows.items() if not re.fullmatch("[a-z0-9_]+", old)}
+            new.append(turned(code, here, True) + sep + re.sub(r"`[^`]*`", lambda m: turned(m[0], rows, True), turned(comment, rows, False)))
         new = "\n".join(new)
     if new != text:
         with open(path, "w", encoding="utf-8") as f:

@@ -1,4 +1,6 @@
 // Averages: a whole sum over a number of words, as a 64-bit float.
+#![tactic(auto)]
+
 ghost use Rattle.std.specs.Prelude.{◌≡◌, ◌^◌, ◌≤◌, ◌<◌};
 ghost use Rattle.averages.specs.Meaning.Averages.{average_of};
 

@@ -3,7 +3,7 @@ ghost use Rattle.std.specs.Prelude.{◌≡◌};
 
 use crate::Board;
 
-#[derive(Drop)]
+#[derive(Clone, Copy)]
 pub enum Load {
     Loaded,
     // 21: the board is loaded.
@@ -12,7 +12,7 @@ pub enum Load {
     BadTable,
 }
 
-#[derive(Drop)]
+#[derive(Clone, Copy)]
 pub struct Loading {
     pub board: Board,
     pub answer: Load,
@@ -26,7 +26,7 @@ impl Loading {
     }
 }
 
-#[derive(Drop)]
+#[derive(Clone, Copy)]
 pub enum Step {
     Output(u8),
     // 20: the board counts as empty.
@@ -39,7 +39,7 @@ pub enum Step {
     BadTable,
 }
 
-#[derive(Drop)]
+#[derive(Clone, Copy)]
 pub struct Stepping {
     pub board: Board,
     pub answer: Step,
@@ -54,14 +54,14 @@ impl Stepping {
 }
 
 // Of rewind and unload.
-#[derive(Drop)]
+#[derive(Clone, Copy)]
 pub enum Change {
     Done,
     // 20: the board counts as empty.
     Empty,
 }
 
-#[derive(Drop)]
+#[derive(Clone, Copy)]
 pub struct Changing {
     pub board: Board,
     pub answer: Change,

@@ -1,5 +1,7 @@
 // The guard board: the record that a guard's run keeps between calls, and the calls on it.
 // A call takes the board and hands it back with its answer; a refused call hands back the same board, field by field.
+#![tactic(auto)]
+
 ghost use Rattle.std.specs.Prelude.{◌≡◌, true, ◌-◌, ◌^◌, ◌<◌, ◌≤◌, length};
 ghost use Rattle.records.specs.Meaning.Limits.{lines_ok};
 ghost use Rattle.guard_table.specs.Meaning.GuardTable.{head_length};
@@ -19,7 +21,7 @@ use records::numbers::{pow2, u16_at};
 
 pub mod answers;
 
-#[derive(Drop)]
+#[derive(Clone, Copy)]
 pub struct Board {
     pub loaded: bool,
     // 0 controller, 1 shield

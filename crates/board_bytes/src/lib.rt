@@ -1,4 +1,6 @@
 // The board's calls over a board's 16 bytes; an answer is document 01's number. On a refusal no byte is changed.
+#![tactic(auto)]
+
 ghost use Rattle.std.specs.Prelude.{◌≡◌};
 ghost use Rattle.board_bytes.specs.Meaning.ByteCalls.{bytes_after};
 ghost use Rattle.board_bytes.specs.Promises.ByteCalls.{LoadCall, StepCall, RewindCall, UnloadCall};
@@ -11,7 +13,7 @@ mod layout;
 pub mod numbers;
 
 // A board's bytes.
-#[derive(Drop)]
+#[derive(Clone, Copy)]
 pub struct BoardBytes {}
 
 impl BoardBytes {

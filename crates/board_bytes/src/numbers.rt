@@ -13,7 +13,7 @@ use sheet::layout::Verdict;
 use solve::made::Made;
 
 // What is reported of an answer beside its number.
-#[derive(Drop)]
+#[derive(Clone, Copy)]
 pub struct Figures {}
 
 impl Figures {

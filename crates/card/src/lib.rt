@@ -1,4 +1,6 @@
 // The card: for each product state either lost, or its best and its least average reward.
+#![tactic(auto)]
+
 ghost use Rattle.std.specs.Prelude.{◌≡◌};
 ghost use Rattle.card.specs.Model.Card.{Summed, Worked, averages_of, card_entry, lost_card, card_of};
 
@@ -6,27 +8,27 @@ use averages::average;
 use records::limits::Limits;
 
 // The best and the least average reward of a kept state.
-#[derive(Drop)]
+#[derive(Clone, Copy)]
 pub struct Averages {
     pub best: f64,
     pub least: f64,
 }
 
 // What the card says of a product state.
-#[derive(Drop)]
+#[derive(Clone, Copy)]
 pub enum Prospect {
     Lost,
     Worth(Averages),
 }
 
 // A place on the card: an array of enums has no proof support as a field, one of structs that hold an enum has.
-#[derive(Drop)]
+#[derive(Clone, Copy)]
 pub struct Entry {
     pub prospect: Prospect,
 }
 
 // The number of product states, and an entry for each in number order; entries past the count are lost.
-#[derive(Drop)]
+#[derive(Clone, Copy)]
 pub struct Card {
     pub count: usize,
     pub entries: [Entry; Limits::STATES],

@@ -1,4 +1,6 @@
 // A card in words, as it crosses to another language.
+#![tactic(auto)]
+
 ghost use Rattle.std.specs.Prelude.{◌≡◌, ◌+◌, ◌≤◌, length};
 ghost use Rattle.std.proofs.lemmas.List.Edits.{sets};
 ghost use Rattle.card_words.specs.Meaning.CardWords.{card_length, entry_words, card_words};
@@ -8,7 +10,7 @@ use card::{Card, Entry, Prospect};
 use records::limits::Limits;
 
 // A card's words: its count, then two for each entry.
-#[derive(Drop)]
+#[derive(Clone, Copy)]
 pub struct CardWords {}
 
 impl CardWords {

@@ -5,7 +5,7 @@ ghost use Rattle.forced.specs.Meaning.Answer.{play_number, play_length, play_sta
 use sheet::layout::Refusal;
 
 // The grounds on which it refuses: the sheet is realizable, or one of the other calls' but that it is unrealizable.
-#[derive(Drop)]
+#[derive(Clone, Copy)]
 pub enum Ground {
     Realizable,
     Sheet(Refusal),
@@ -24,7 +24,7 @@ impl Ground {
 }
 
 // The bytes of the answer and the states that it has, or the ground of the refusal.
-#[derive(Drop)]
+#[derive(Clone, Copy)]
 pub enum Forced {
     Play { length: usize, states: usize },
     Refused(Ground),

@@ -17,7 +17,7 @@ use solve::opening::solve_sheet;
 use states::index::Index;
 
 // The maker: the work memory that it needs.
-#[derive(Drop)]
+#[derive(Clone, Copy)]
 pub struct Forcing {}
 
 impl Forcing {

@@ -1,5 +1,7 @@
 // The answer that shows how a break is forced: a row of bytes for each product state, over a table of steps and the rounds over it.
 // The round that dropped a state is the least number of steps in which the inputs force a break from it; 0 says that it is kept.
+#![tactic(auto)]
+
 ghost use Rattle.std.specs.Prelude.{◌≡◌, ℕ, ◌+◌, ◌≤◌, ◌<◌, length};
 ghost use Rattle.std.proofs.lemmas.List.Edits.{sets};
 ghost use Rattle.records.specs.Meaning.Limits.{max_ins, max_outs, max_states};
@@ -14,7 +16,7 @@ use records::numbers::put_u16;
 use rounds::{cell_at, is_kept};
 
 // The monitor that breaks a step, as a byte of the answer.
-#[derive(Drop)]
+#[derive(Clone, Copy)]
 pub struct Breaker {}
 
 impl Breaker {

@@ -3,7 +3,7 @@ use card::Card;
 use sheet::layout::Verdict;
 
 // The verdict, and the card: on a refusal it has no state, and every entry is lost.
-#[derive(Drop)]
+#[derive(Clone, Copy)]
 pub struct Forecasting {
     pub verdict: Verdict,
     pub card: Card,

@@ -11,7 +11,7 @@ use records::limits::Limits;
 use states::index::Index;
 
 // The maker: the work memory that it needs.
-#[derive(Drop)]
+#[derive(Clone, Copy)]
 pub struct Forecast {}
 
 impl Forecast {

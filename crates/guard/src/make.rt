@@ -10,7 +10,7 @@ use solve::made::Made;
 use states::index::Index;
 
 // The maker: the work memory that it needs.
-#[derive(Drop)]
+#[derive(Clone, Copy)]
 pub struct Guard {}
 
 impl Guard {

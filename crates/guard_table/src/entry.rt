@@ -11,7 +11,7 @@ use crate::kind::{RowKind, kind_of};
 use crate::layout::Layout;
 use records::numbers::{pow2, put_u16, u16_at};
 
-#[derive(Drop)]
+#[derive(Clone, Copy)]
 pub struct Entry {
     pub output: u8,
     // the state after it

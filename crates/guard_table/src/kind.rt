@@ -7,7 +7,7 @@ use crate::layout::Layout;
 use crate::part::{Part, part_at};
 use records::limits::Limits;
 
-#[derive(Drop)]
+#[derive(Clone, Copy)]
 pub enum RowKind {
     // 17: the next state is one byte
     Narrow,

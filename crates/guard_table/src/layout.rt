@@ -9,7 +9,7 @@ use records::limits::Limits;
 use records::numbers::pow2;
 
 // The guard table's sizes, for so many input lines and rows of a kind.
-#[derive(Drop)]
+#[derive(Clone, Copy)]
 pub struct Layout {
     pub inputs: u8,
     pub kind: RowKind,

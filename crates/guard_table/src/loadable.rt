@@ -40,7 +40,7 @@ fn fields_ok(mode: u8, layout: Layout, outputs: u8, horizon: u8, count: u16, siz
 }
 
 // Whether the head is a guard table's.
-fn head_ok_lem(t: &[u8]) -> bool
+fn head_ok(t: &[u8]) -> bool
     ensures { result ≡ table_head_ok t.now }
 {
     if !shows_kind(t) {
@@ -124,7 +124,7 @@ fn rows_ok(t: &[u8], inputs: u8, outputs: u8, count: usize) -> bool
 pub fn is_loadable(t: &[u8]) -> bool
     ensures { result ≡ loadable t.now }
 {
-    if head_ok_lem(t) {
+    if head_ok(t) {
         return rows_ok(
             t,
             t[Layout::INPUTS],

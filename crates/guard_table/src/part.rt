@@ -7,7 +7,7 @@ use crate::kind::RowKind;
 use crate::layout::Layout;
 use records::numbers::u16_at;
 
-#[derive(Drop)]
+#[derive(Clone, Copy)]
 pub enum Part {
     Head,
     Row(RowKind),

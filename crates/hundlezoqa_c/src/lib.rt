@@ -2,6 +2,8 @@
 // demand 3 once more, over boards that are bytes.
 // A slice crosses as a pointer and a length, a board as 16 bytes, a card as 1,025 words, an answer as document 01's number.
 // An array crosses as a pointer alone. So each name ends in its array's size: a program that was compiled for another does not link.
+#![tactic(auto)]
+
 ghost use Rattle.std.specs.Prelude.{◌≡◌, [], ◌∷◌, length};
 ghost use Rattle.records.specs.Meaning.Numbers.{zeros};
 ghost use Rattle.board_bytes.specs.Promises.ByteCalls.{LoadCall, StepCall, RewindCall, UnloadCall};

@@ -1,4 +1,6 @@
 // Reads a sheet on standard input, and prints the listing of its guard, or why there is none.
+#![tactic(auto)]
+
 ghost use Rattle.listing.specs.Promises.Printed.{PrintsRead, PrintsGuard};
 
 use guard::make::Guard;
@@ -7,7 +9,7 @@ use libc::{STDIN_FILENO, STDOUT_FILENO};
 use report::Report;
 
 // The bytes of a sheet that is not too long, and one more, up to which it is read.
-#[derive(Drop)]
+#[derive(Clone, Copy)]
 pub struct Listing {}
 
 impl Listing {

@@ -1,4 +1,6 @@
 // The pieces of a listing. Each is put at a place of the text memory, and answers the place after it.
+#![tactic(auto)]
+
 pub mod lengths;
 
 ghost use Rattle.std.specs.Prelude.{◌≡◌, [], ◌∷◌, ◌+◌, ◌^◌, ◌≤◌, ◌<◌, length};

@@ -1,5 +1,7 @@
 // Counters of 32 and 8, 9 and 16 states moved by different output lines pass; 32 and 17 are refused 7 (document 01's notebook, with
 // document 02's N6).
+#![tactic(auto)]
+
 mod counters;
 mod makers;
 

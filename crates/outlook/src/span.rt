@@ -7,7 +7,7 @@ ghost use Rattle.outlook.specs.Model.Spans.{no_span, widened, span_of};
 use values::values::{larger, next_of, offer_of, score_of};
 
 // The largest and the smallest score of the outputs tried so far, and whether there was one.
-#[derive(Drop)]
+#[derive(Clone, Copy)]
 pub struct Span {
     pub some: bool,
     pub best: u64,

@@ -13,7 +13,7 @@ use crate::span::span_at;
 use rounds::is_kept;
 
 // What ways of answering earn from a state, added over all words of inputs: at best and at least.
-#[derive(Drop)]
+#[derive(Clone, Copy)]
 pub struct Sums {
     pub best: u64,
     pub least: u64,

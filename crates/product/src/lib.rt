@@ -1,4 +1,6 @@
 // One step of a tuple: what a step of the monitors means, in code.
+#![tactic(auto)]
+
 pub mod automaton;
 pub mod letters;
 pub mod monitors;

@@ -6,13 +6,13 @@ ghost use Rattle.records.specs.Meaning.Records.{header};
 
 use crate::numbers::{put_u16, u16_at};
 
-#[derive(Drop)]
+#[derive(Clone, Copy)]
 pub struct Cursor {
     pub at: usize,
 }
 
 // What a cursor finds.
-#[derive(Drop)]
+#[derive(Clone, Copy)]
 pub enum Found {
     // A whole record: its body is the `size` bytes from `start`, and `next` is past it.
     Record {

@@ -1,4 +1,6 @@
 // The listing of a guard table, and what is said where there is none, as text.
+#![tactic(auto)]
+
 ghost use Rattle.std.specs.Prelude.{◌≡◌, true};
 ghost use Rattle.guard_table.specs.Meaning.Loadable.{loadable};
 ghost use Rattle.listing_text.specs.Meaning.Listing.{listing_of, refused_text, too_long_text};
@@ -11,7 +13,7 @@ use records::limits::Limits;
 use solve::made::Made;
 
 // What a writer of text answers: the bytes of its text, or why it wrote none.
-#[derive(Drop)]
+#[derive(Clone, Copy)]
 pub enum Listed {
     Text(usize),
     NoTable,
@@ -43,7 +45,7 @@ impl Listed {
 }
 
 // The writers of text. Each knows the length of its text before it writes any.
-#[derive(Drop)]
+#[derive(Clone, Copy)]
 pub struct Report {}
 
 impl Report {

@@ -1,6 +1,8 @@
 // The rounds that drop lost states, over a table of steps, and the masks of allowed outputs.
 // `ins` and `outs` are the numbers of inputs and of outputs; `dropped` holds for each state the round, counted
 // from 1, that dropped it, and 0 while it is in.
+#![tactic(auto)]
+
 ghost use Rattle.std.specs.Prelude.{◌≡◌, ℕ, ◌<◌, ◌≤◌, length, get_or};
 ghost use Rattle.records.specs.Meaning.Limits.{max_states, max_outs};
 ghost use Rattle.rounds.specs.Model.TableRounds.{Steps, cell_at, is_in, leads_in, stays, mask_of, Settled};

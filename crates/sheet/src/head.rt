@@ -6,7 +6,7 @@ ghost use Rattle.sheet.specs.Model.HeadRecord.{head_sheet, read_head};
 
 use crate::layout::{Monitor, Reading, Refusal, Sheet};
 use records::limits::{Limits, horizon_ok};
-use sheet_fields::head::{guard_lines, head_ok_lem, literal_at};
+use sheet_fields::head::{guard_lines, head_ok, literal_at};
 
 // The sheet of a head that is in order, with no monitors yet.
 pub fn head_sheet(s: &[u8], start: usize) -> Sheet

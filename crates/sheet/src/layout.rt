@@ -7,7 +7,7 @@ ghost use Rattle.sheet.specs.Meaning.Grounds.{ground_number};
 use records::limits::Limits;
 
 // One monitor: its numbers, and where its accept bytes and its rows of next states begin.
-#[derive(Drop)]
+#[derive(Clone, Copy)]
 pub struct Monitor {
     pub role: u8,
     pub weight: u8,
@@ -19,7 +19,7 @@ pub struct Monitor {
 
 // A sheet. `site` lines come from the site, `inputs` is the guard's number of input lines, `matching` is the match
 // weight. The first `outputs` literals and the first `count` monitors are the sheet's.
-#[derive(Drop)]
+#[derive(Clone, Copy)]
 pub struct Sheet {
     pub mode: u8,
     pub site: u8,
@@ -33,7 +33,7 @@ pub struct Sheet {
 }
 
 // The grounds on which a maker refuses.
-#[derive(Drop)]
+#[derive(Clone, Copy)]
 pub enum Refusal {
     Truncated,
     Misplaced,
@@ -67,14 +67,14 @@ impl Refusal {
     }
 }
 
-#[derive(Drop)]
+#[derive(Clone, Copy)]
 pub enum Verdict {
     Accepted,
     Refused(Refusal),
 }
 
 // A verdict, with the sheet that was read; on a refusal the blank sheet.
-#[derive(Drop)]
+#[derive(Clone, Copy)]
 pub struct Reading {
     pub sheet: Sheet,
     pub verdict: Verdict,

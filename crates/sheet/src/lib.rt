@@ -1,4 +1,6 @@
 // The sheet: its records read, judged and laid out.
+#![tactic(auto)]
+
 pub mod head;
 pub mod layout;
 pub mod monitor;

@@ -93,7 +93,7 @@ pub fn numbers_ok(mode: u8, site: u8, outputs: u8, matching: u8, size: usize) ->
 }
 
 // Whether the body's size and fields, the horizon aside, are in order.
-pub fn head_ok_lem(s: &[u8], start: usize, size: usize) -> bool
+pub fn head_ok(s: &[u8], start: usize, size: usize) -> bool
     requires { start + size ≤ length s.now }
     ensures { result ≡ head_ok s.now start size }
 {

@@ -1,4 +1,6 @@
 // The fields of a sheet's records: when they are in bounds.
+#![tactic(auto)]
+
 pub mod head;
 pub mod monitor;
 pub mod places;

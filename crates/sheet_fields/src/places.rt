@@ -1,7 +1,7 @@
 // Where the parts of a record's body stand.
 
 // The fixed parts of bodies.
-#[derive(Drop)]
+#[derive(Clone, Copy)]
 pub struct Fixed {}
 
 impl Fixed {

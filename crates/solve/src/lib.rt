@@ -1,4 +1,6 @@
 // Solving a sheet, which every maker begins with.
+#![tactic(auto)]
+
 pub mod made;
 pub mod opening;
 pub mod solving;

@@ -11,7 +11,7 @@ use sheet::reader::read;
 
 // A verdict, and where it accepts, the sheet, the number of its product states, how many of them are kept, and whether the start is;
 // else 0, 0 and false.
-#[derive(Drop)]
+#[derive(Clone, Copy)]
 pub struct Solving {
     pub verdict: Verdict,
     pub sheet: Sheet,
@@ -73,7 +73,7 @@ pub fn solve_sheet(
 }
 
 // A verdict, and where it accepts, the sheet, the number of its product states, and how many of them are kept; else 0.
-#[derive(Drop)]
+#[derive(Clone, Copy)]
 pub struct Opening {
     pub verdict: Verdict,
     pub sheet: Sheet,

@@ -18,7 +18,7 @@ use states::index::Index;
 use supervisor_table::{put_head, put_rows, table_length};
 
 // The maker: the work memory that it needs.
-#[derive(Drop)]
+#[derive(Clone, Copy)]
 pub struct Supervisor {}
 
 impl Supervisor {

@@ -8,7 +8,7 @@ use crate::values::offer_of;
 use records::limits::Limits;
 
 // The output that leads so far, with its score and its rank; none at first.
-#[derive(Drop)]
+#[derive(Clone, Copy)]
 pub struct Leader {
     pub found: bool,
     pub output: usize,

@@ -33,7 +33,7 @@ pub fn score_of(bonuses: &[u16], arrivals: &[u64], factor: u64, to: usize, lette
 }
 
 // What an output offers: whether it is allowed, and then the score of its step.
-#[derive(Drop)]
+#[derive(Clone, Copy)]
 pub struct Offer {
     pub allowed: bool,
     pub score: u64,
