@@ -1,16 +1,19 @@
-use Rattle.std.proofs.Common.{rules, ◌≡◌, ◌≤◌, length, ℕ, ◌+◌, ◌-◌, ◌*◌, ◌<◌, ◌/◌, ◌%◌, Bool, true, false, nat_eq, nat_lt, List, [], ◌∷◌, ◌++◌, slice_index_or, slice_set, bit_and, bit_or, Fits, w8, w32, w64, Bor, MutBor}
-use Rattle.records.specs.Model.Lists.{put}
-use Rattle.records.specs.Meaning.Numbers.{zeros}
+-- `records::clear::clear_front16`: the elements before k are 0. Assumes nothing.
+use Rattle.std.proofs.Common.{arith}
+use Rattle.records.proofs.Clearing.{begin, more, same, end}
 use Rattle.records.proofs.clear.clear_front16.Goals as goal
 
--- src/clear.rt:21:5
 pub loop-k-init : goal.loop-k-init
-loop-k-init c = ?
+loop-k-init c = begin _ _
 
--- src/clear.rt:21:5
+pub bounds-work-k : goal.bounds-work-k
+bounds-work-k c = omega (arith, same c.loop-k.invariant)
+
 pub loop-k-preserved : goal.loop-k-preserved
-loop-k-preserved c = ?
+loop-k-preserved c = more c.loop-k.invariant c.loop-k-test.true
 
--- src/clear.rt:16:1
+pub shape_of-work : goal.shape_of-work
+shape_of-work c = same c.loop-k.invariant
+
 pub returns : goal.returns
-returns c = ?
+returns c = end c.loop-k.invariant c.loop-k-test.false

@@ -1,11 +1,10 @@
-use Rattle.std.proofs.Common.{◌-◌, ◌≡◌, ◌≤◌, length, ℕ, ◌+◌, ◌*◌, ◌<◌}
-use Rattle.records.specs.Model.Lists.{put}
-use Rattle.records.specs.Meaning.Numbers.{zeros}
+-- `records::clear::clear_front16`: the elements before k are 0. Assumes nothing.
+use Rattle.std.proofs.Common.{◌-◌}
+use Rattle.records.proofs.Clearing.{Cleared}
 use Rattle.records.proofs.clear.clear_front16.Given as goal
 
 abbrev pub invariant-loop-k : goal.invariant-loop-k
-invariant-loop-k l = ?
+invariant-loop-k l = Cleared l.initial.work l.n l.work l.k
 
--- proposed from the loop's first test
 abbrev pub decreases-loop-k : goal.decreases-loop-k
 decreases-loop-k l = l.n - l.k

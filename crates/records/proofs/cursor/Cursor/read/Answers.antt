@@ -1,21 +1,21 @@
-use Rattle.std.proofs.Common.{rules, ◌≡◌, ◌+◌, ◌<◌, length, ℕ, ◌-◌, ◌*◌, ◌≤◌, ◌/◌, ◌%◌, Bool, true, false, nat_eq, nat_lt, List, [], ◌∷◌, ◌++◌, slice_index_or, slice_set, bit_and, bit_or, Fits, w8, w32, w64, Bor, MutBor}
-use Rattle.std.proofs.lemmas.List.Edits.{sets}
-use Rattle.records.specs.Promises.Cursor.{Finds}
-use Rattle.records.specs.Meaning.Records.{header}
+-- `records::cursor::Cursor::read`: the tests in the definition's order. Assumes nothing.
+use Rattle.records.specs.Laws.Tests.{cases}
+use Rattle.records.specs.Meaning.Records.{read_at}
+use Rattle.records.specs.Laws.Cursor.{finds}
 use Rattle.records.proofs.cursor.Cursor.read.Goals as goal
 
--- src/cursor.rt:42:13
 pub returns-then-s-at : goal.returns-then-s-at
-returns-then-s-at c = ?
+unfolding read_at
+returns-then-s-at c = finds (search cases)
 
--- src/cursor.rt:45:13
 pub returns-then-s-at-lt4 : goal.returns-then-s-at-lt4
-returns-then-s-at-lt4 c = ?
+unfolding read_at
+returns-then-s-at-lt4 c = finds (search cases)
 
--- src/cursor.rt:50:13
 pub returns-then-s-start : goal.returns-then-s-start
-returns-then-s-start c = ?
+unfolding read_at
+returns-then-s-start c = finds (search (cases, ← c.u16_at-size.ensures))
 
--- src/cursor.rt:37:5
 pub returns : goal.returns
-returns c = ?
+unfolding read_at
+returns c = finds (search (cases, ← c.u16_at-size.ensures, ← c.u16_at.ensures))

@@ -1,0 +1,22 @@
+-- `records::numbers::u16_at`: each of the two is a byte, so their number fits. Assumes nothing.
+use Rattle.std.proofs.Common.{arith, rules, ◌+◌}
+use Rattle.records.specs.Meaning.Numbers.{u16_at}
+use Rattle.records.proofs.numbers.u16_at.Goals as goal
+
+pub overflow_cast-result : goal.overflow_cast-result
+overflow_cast-result c = omega (arith, c.shared_slice_known-1.given c.args.at)
+
+pub overflow_cast-result-2 : goal.overflow_cast-result-2
+overflow_cast-result-2 c = omega (arith, c.shared_slice_known-2-1.given (c.args.at + 1))
+
+pub overflow_mul-result : goal.overflow_mul-result
+overflow_mul-result c = omega (arith, c.shared_slice_known-2-1.given (c.args.at + 1))
+
+pub overflow_add-result-2 : goal.overflow_add-result-2
+overflow_add-result-2 c =
+    let at = c.args.at in
+    omega (arith, c.shared_slice_known-1.given at, c.shared_slice_known-2-1.given (at + 1))
+
+pub returns : goal.returns
+unfolding u16_at
+returns c = search rules
