@@ -80,11 +80,11 @@ module _ (S : Type 0) (I O : ℕ) (step : S → ℕ → ℕ → S) (ok : S → �
       -- the way that begins with i
       begin_with : (g : List ℕ → ℕ) × Beats (suc n) s g × (g [] ≡ i)
       unfolding join meaningForcing.breaks
-      begin_with = (
-        join s i (λ q h k. (rest q h k).0),
+      begin_with = let g : List ℕ → ℕ = join s i (λ q h k. (rest q h k).0) in (
+        g,
         record {
-          inputs = λ h. elim h [ [] ↦ low | o ∷ w ↦ join_low o (dec_lt o O) (ok s i o) refl w ];
-          wins = λ w. elim w [
+          inputs = λ h. elim h as (λ v. g v < I) [ [] ↦ low | o ∷ w ↦ join_low o (dec_lt o O) (ok s i o) refl w ];
+          wins = λ w. elim w as (λ v. Word O (suc n) v → meaningForcing.breaks S I O step ok g s v ≡ true) [
             | [] ↦ λ r. absurd (omega (arith, r.long))
             | o ∷ v ↦ λ r. join_wins o (dec_lt o O) (ok s i o) refl r.below.0 v (word_tail O n o v r)
           ];

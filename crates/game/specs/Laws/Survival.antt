@@ -55,11 +55,21 @@ module _ (S : Type 0) (I O : ℕ) (step : S → ℕ → ℕ → S) (ok : S → �
 
   strategy : (n : ℕ) (s : S) → Lasts n s → Survives n s
   unfolding join
-  strategy zero s m = (λ h. 0, λ w. elim w [ [] ↦ λ r. tt | i ∷ v ↦ λ r. absurd (omega (arith, r.long)) ])
+  strategy zero s m = (
+    λ h. 0,
+    λ w. elim w as (λ v. Word I zero v → Along S O step Unbroken (λ h. 0) s v) [
+      | [] ↦ λ r. tt
+      | i ∷ v ↦ λ r. absurd (omega (arith, r.long))
+    ],
+  )
   strategy (suc n) s m =
-      let rest : (i : ℕ) (h : i < I) → Survives n (step s i (m i h).0) = λ i h. strategy n _ (m i h).3 in (
-        join (λ j h. (m j h).0) (λ j h. (rest j h).0),
-        λ w. elim w [ [] ↦ λ r. tt | i ∷ v ↦ λ r. join_along n s m rest i (dec_lt i I) r.below.0 v (word_tail I n i v r) ],
+      let rest : (i : ℕ) (h : i < I) → Survives n (step s i (m i h).0) = λ i h. strategy n _ (m i h).3 in
+      let f : List ℕ → ℕ = join (λ j h. (m j h).0) (λ j h. (rest j h).0) in (
+        f,
+        λ w. elim w as (λ v. Word I (suc n) v → Along S O step Unbroken f s v) [
+          | [] ↦ λ r. tt
+          | i ∷ v ↦ λ r. join_along n s m rest i (dec_lt i I) r.below.0 v (word_tail I n i v r)
+        ],
       )
 
   -- a strategy survives n inputs exactly if they can be survived from move to move
