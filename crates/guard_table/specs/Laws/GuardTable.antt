@@ -1,6 +1,6 @@
 -- Laws of the guard table's layout: where rows and entries lie, and what stands in the table of given entries.
 -- Assumes nothing.
-use Rattle.std.specs.Prelude.{◌≡◌, true, List, ◌∷◌, ◌++◌, ℕ, ◌+◌, ◌*◌, ◌^◌, ◌/◌, ◌%◌, ◌≤◌, ◌<◌}
+use Rattle.std.specs.Prelude.{◌≡◌, true, cond, eqb, ◌||◌, List, ◌∷◌, ◌++◌, ℕ, ◌+◌, ◌*◌, ◌^◌, ◌/◌, ◌%◌, ◌≤◌, ◌<◌}
 use Rattle.std.proofs.Math.Path.{refl, ap}
 use Rattle.std.proofs.Common.{sym, ap₂, ◌∙◌, mul-zero, pow_mono, get_or-append-add}
 use Rattle.std.proofs.Math.Nat.{suc-mul, mul_comm, mul-le-mul, mul-le-mul_right, zero-mul, add-zero}
@@ -116,7 +116,7 @@ module _ (t : List ℕ) (inputs place input : ℕ) {kind : RowKind} (shown : kin
 
 module _ (kind : RowKind) where
   pub length_entry : (output next : ℕ) → length (guard_entry kind output next) ≡ entry_width kind
-  length_entry o n = elim kind [ Narrow ↦ refl | Wide ↦ refl ]
+  length_entry o n = elim kind as (λ k. length (guard_entry k o n) ≡ entry_width k) [ Narrow ↦ refl | Wide ↦ refl ]
 
   pub length-row : (inputs : ℕ) (out next : ℕ → ℕ) → length (guard_row kind inputs out next) ≡ row_length kind inputs
   unfolding guard_row row_length
@@ -238,13 +238,19 @@ module _ (kind : RowKind) (mode inputs outputs horizon count : ℕ) (out next : 
 
     pub table-kind : kind_of table ≡ kind
     unfolding kind_of
-    table-kind = rw first_kind_lem (elim kind [ Narrow ↦ refl | Wide ↦ refl ])
+    table-kind =
+        rw first_kind_lem
+        (elim kind as (λ k. cond (eqb (kind_number k) (kind_number Wide)) Wide Narrow ≡ k) [ Narrow ↦ refl | Wide ↦ refl ])
 
     pub table_shows : shows_kind table ≡ true
     unfolding shows_kind length_in row_length
     table_shows =
         let long : shown_length ≤ length table = omega (arith, length-table, mul-le-mul_right (row_length kind inputs) some) in
-        rw (first_kind_lem, le-leb shown_length (length table) long) (elim kind [ Narrow ↦ refl | Wide ↦ refl ])
+        rw (first_kind_lem, le-leb shown_length (length table) long)
+        (elim kind as (λ k. eqb (kind_number k) (kind_number Narrow) || eqb (kind_number k) (kind_number Wide) ≡ true) [
+          | Narrow ↦ refl
+          | Wide ↦ refl
+        ])
 
   module _ (k : ℕ) (h : k < count) (i : ℕ) (l : i < 2 ^ inputs) where
     -- byte b of the entry of state k and input i

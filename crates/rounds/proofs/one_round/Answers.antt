@@ -4,12 +4,11 @@ use mathlib.Core.Logic.{⊎_elim}
 use Rattle.records.specs.Laws.Tests.{said}
 use Rattle.rounds.specs.Model.InPlace.{drops}
 use Rattle.rounds.proofs.Turn.{begin, same, lost_most, drop, keep, end}
-use Rattle.rounds.proofs.one_round.Lts
-use Rattle.rounds.proofs.one_round.Reads
+use Rattle.rounds.proofs.one_round.Goals.{After-round_drops}
 use Rattle.rounds.proofs.one_round.Goals as goal
 
 -- what the call answered
-dropping : (c : Lts.After-round_drops Reads.Pre Reads.Post goal.the-invariant-loop-k goal.the-decreases-loop-k) {b : Bool} → c.round_drops.result ≡ b →
+dropping : (c : After-round_drops) {b : Bool} → c.round_drops.result ≡ b →
     let a = c.args in
     drops a.cells.now a.ins a.outs a.round c.loop-k.dropped c.loop-k.k ≡ b
 dropping c e = said c.round_drops.ensures e
@@ -18,9 +17,7 @@ pub loop-k-init : goal.loop-k-init
 loop-k-init c = begin _ _ _ _ _ _
 
 pub round_drops-requires : goal.round_drops-requires
-round_drops-requires c =
-    let at = c in
-    (at.requires.steps, record { room = omega (arith, same at.loop-k.invariant, at.requires.n_in_bounds); state = omega arith })
+round_drops-requires c = let at = c in record { steps = at.requires.steps; cell_entered = record { room = omega (arith, same at.loop-k.invariant, at.requires.n_in_bounds); state = omega arith } }
 
 pub offset_bounds-dropped-k : goal.offset_bounds-dropped-k
 offset_bounds-dropped-k c = omega (arith, same c.loop-k.invariant)
@@ -36,8 +33,8 @@ loop-k-preserved c =
     let at = c in
     let pre = at.requires in
     ⊎_elim
-    (λ w. drop at.loop-k.invariant pre.0 pre.1.0 pre.1.1 (omega arith) (dropping c.before w.0.taken) w.1 w.2)
-    (λ w. keep at.loop-k.invariant pre.0 pre.1.0 pre.1.1 (omega arith) (dropping c.before w.0.left) w.1 w.2)
+    (λ w. drop at.loop-k.invariant pre.0 pre.1.0 pre.1.1 (omega arith) (dropping (goal.at.loop-k-preserved c).After-round_drops w.0.taken) w.1 w.2)
+    (λ w. keep at.loop-k.invariant pre.0 pre.1.0 pre.1.1 (omega arith) (dropping (goal.at.loop-k-preserved c).After-round_drops w.0.left) w.1 w.2)
     c.if-round_drops.branch
 
 pub shape_of-dropped : goal.shape_of-dropped

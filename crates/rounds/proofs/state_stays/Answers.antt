@@ -9,27 +9,26 @@ use Rattle.records.specs.Laws.Bounded.{all_none, all_more}
 use Rattle.rounds.specs.Laws.CellPlaces.{max_index, row_in_table, leads_at}
 use Rattle.rounds.proofs.Search.{search_begin, search_output, search_more, search_found, one_failed, all_passed}
 use Rattle.rounds.proofs.Search.{first_fits, next_fits}
-use Rattle.rounds.proofs.state_stays.Lts
-use Rattle.rounds.proofs.state_stays.Reads
+use Rattle.rounds.proofs.state_stays.Goals.{Else-end-at, Start}
 use Rattle.rounds.proofs.state_stays.Goals as goal
 
 -- the state's row lies in the table
-row : (s : Lts.Start Reads.Pre Reads.Post goal.the-invariant-search goal.the-decreases-search goal.the-invariant-inputs goal.the-decreases-inputs) → let a = s.args in
+row : (s : Start) → let a = s.args in
     a.k * (a.ins * a.outs) + a.ins * a.outs ≤ length a.cells.now
 row s = omega (arith, s.requires.steps.rows, row_in_table (s.args.ins * s.args.outs) s.requires.cell_entered.state)
 
 -- the cell that is looked at is an output's
-output : (c : goal.Else-end-at) → c.search.invariant.output < c.args.outs
+output : (c : Else-end-at) → c.search.invariant.output < c.args.outs
 output c = search_output _ _ _ _ _ c.inputs-test.true c.search.invariant (omega (arith, c.if-end-at.false))
 
 pub overflow_mul-letters : goal.overflow_mul-letters
-overflow_mul-letters c = omega (arith, row c.before.before)
+overflow_mul-letters c = omega (arith, row (goal.at.overflow_mul-letters c).Start)
 
 pub overflow_mul-base : goal.overflow_mul-base
-overflow_mul-base c = omega (arith, row c.before.before)
+overflow_mul-base c = omega (arith, row (goal.at.overflow_mul-base c).Start)
 
 pub overflow_add-end : goal.overflow_add-end
-overflow_add-end c = omega (arith, row c.before.before)
+overflow_add-end c = omega (arith, row (goal.at.overflow_add-end c).Start)
 
 pub inputs-init : goal.inputs-init
 inputs-init c = (omega arith, all_none _)
@@ -39,7 +38,7 @@ overflow_add-at c =
     let s = c in
     let a = s.args in
     let place : a.k * (a.ins * a.outs) + c.inputs.i ≤ max_index =
-    first_fits a.k a.ins a.outs _ max_index (omega (arith, row s.before.before.before.before)) c.inputs-test.true (omega arith) in
+    first_fits a.k a.ins a.outs _ max_index (omega (arith, row (goal.at.overflow_add-at s).Start)) c.inputs-test.true (omega arith) in
     omega arith
 
 pub search-init : goal.search-init
@@ -54,7 +53,7 @@ pub overflow_add-at-in-search : goal.overflow_add-at-in-search
 overflow_add-at-in-search c =
     let t = c in
     let a = t.args in
-    omega (arith, row t.before.before.before.before.before.before.before.before, t.if-end-at.false, next_fits a.ins a.outs (omega (arith, output t.before.before)))
+    omega (arith, row (goal.at.overflow_add-at-in-search t).Start, t.if-end-at.false, next_fits a.ins a.outs (omega (arith, output (goal.at.overflow_add-at-in-search t).Else-end-at)))
 
 pub search-smaller : goal.search-smaller
 search-smaller c = let t = c in omega (arith, t.if-end-at.false, t.inputs-test.true)

@@ -2,7 +2,11 @@
 use Rattle.std.proofs.Common.{arith, ◌∙◌}
 use native.Mathlib.Numerals.{add-one}
 use lib.ListN.{length-set}
+use Rattle.guard_table.specs.Laws.RowKind.{width-least}
 use Rattle.guard_table.proofs.entry.put_entry.Goals as goal
+
+pub bounds-res-at : goal.bounds-res-at
+bounds-res-at c = omega (arith, width-least c.args.kind)
 
 pub put_next-requires : goal.put_next-requires
 put_next-requires c = let s = c in simp length-set (omega arith, s.requires.1)

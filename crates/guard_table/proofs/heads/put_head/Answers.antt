@@ -3,6 +3,15 @@ use Rattle.std.proofs.Common.{arith, ◌∙◌}
 use lib.ListN.{length-set}
 use Rattle.guard_table.proofs.heads.put_head.Goals as goal
 
+pub bounds-res-5 : goal.bounds-res-5
+bounds-res-5 c = simp length-set (omega arith)
+
+pub bounds-res-6 : goal.bounds-res-6
+bounds-res-6 c = simp length-set (omega arith)
+
+pub bounds-res-7 : goal.bounds-res-7
+bounds-res-7 c = simp length-set (omega arith)
+
 pub put_u16-requires : goal.put_u16-requires
 put_u16-requires c = simp length-set (omega arith)
 

@@ -23,11 +23,11 @@ overflow_cast-size c = omega (arith, c.row_size-size.ensures.1)
 pub put_header-requires : goal.put_header-requires
 put_header-requires c =
     let at = c in
-    omega (arith, header_inside _ at.requires, at.row_at_lem.ensures.0)
+    omega (arith, header_inside _ at.requires, at.row_at.ensures.0)
 
 pub returns : goal.returns
 returns c =
     let d = c in
     let at = d in
-    header-stored at.args.res-1.now at.row_at_lem.ensures.0 at.row_size-size.ensures.0
+    header-stored at.args.res.now at.row_at.ensures.0 at.row_size-size.ensures.0
     d.number.ensures d.put_header.ensures

@@ -4,10 +4,10 @@ use Rattle.guard_table.proofs.Parts.{kind-found}
 use Rattle.guard_table.proofs.kind.kind_of.Goals as goal
 
 pub returns-in-Row : goal.returns-in-Row
-returns-in-Row c = let d = c in sym (kind-found _ d.part_at.ensures d.kind-1.given.1)
+returns-in-Row c = let d = c in sym (kind-found _ d.part_at.ensures d.in-Row.is)
 
 pub returns-in-Head : goal.returns-in-Head
-returns-in-Head c = sym (kind-found _ c.part_at.ensures c.enum_told-1.given.1)
+returns-in-Head c = sym (kind-found _ c.part_at.ensures c.in-Head.is)
 
 pub returns-in-Other : goal.returns-in-Other
-returns-in-Other c = sym (kind-found _ c.part_at.ensures c.enum_told-in-Other-1.given.1)
+returns-in-Other c = sym (kind-found _ c.part_at.ensures c.in-Other.is)

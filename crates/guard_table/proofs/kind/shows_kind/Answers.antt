@@ -7,10 +7,10 @@ pub returns-then-table-lt-SHOWN : goal.returns-then-table-lt-SHOWN
 returns-then-table-lt-SHOWN c = sym (kind-hidden _ (omega arith))
 
 pub returns-in-Row : goal.returns-in-Row
-returns-in-Row c = sym (kind-shown _ c.part_at.ensures c.enum_told-1.given.1 (omega arith))
+returns-in-Row c = sym (kind-shown _ c.part_at.ensures c.in-Row.is (omega arith))
 
 pub returns-in-Head : goal.returns-in-Head
-returns-in-Head c = sym (kind-shown _ c.part_at.ensures c.enum_told-in-Head-1.given.1 (omega arith))
+returns-in-Head c = sym (kind-shown _ c.part_at.ensures c.in-Head.is (omega arith))
 
 pub returns-in-Other : goal.returns-in-Other
-returns-in-Other c = sym (kind-shown _ c.part_at.ensures c.enum_told-in-Other-1.given.1 (omega arith))
+returns-in-Other c = sym (kind-shown _ c.part_at.ensures c.in-Other.is (omega arith))

@@ -7,4 +7,4 @@ use Rattle.guard_table.proofs.layout.guard_length.Goals as goal
 pub returns : goal.returns
 returns c =
     let s = c.args in
-    c.table_length_lem.ensures ∙ ap (λ (k : RowKind). length_in k s.inputs s.count) c.of.ensures
+    c.table_length.ensures ∙ ap (λ (k : RowKind). length_in k s.inputs s.count) c.of.ensures

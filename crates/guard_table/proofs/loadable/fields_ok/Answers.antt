@@ -4,23 +4,24 @@ use Rattle.records.specs.Laws.Tests.{said}
 use Rattle.records.specs.Meaning.Limits.{lines_ok}
 use Rattle.records.specs.Laws.Limits.{lines_facts}
 use Rattle.guard_table.specs.Meaning.Loadable.{fields_ok}
+use Rattle.guard_table.proofs.loadable.fields_ok.Goals.{Then-lines_ok}
 use Rattle.guard_table.proofs.loadable.fields_ok.Goals as goal
 
-lines : (c : goal.Then-lines_ok) → let a = c.args in lines_ok a.mode a.layout.inputs a.outputs ≡ true
+lines : (c : Then-lines_ok) → let a = c.args in lines_ok a.mode a.layout.inputs a.outputs ≡ true
 lines c = said c.lines_ok.ensures c.if-lines_ok.true
 
 pub size_ok-requires : goal.size_ok-requires
-size_ok-requires c = (lines_facts _ _ _ (lines c.before.before)).inputs_most
+size_ok-requires c = (lines_facts _ _ _ (lines (goal.at.size_ok-requires c).Then-lines_ok)).inputs_most
 
 pub returns-then-horizon_ok : goal.returns-then-horizon_ok
 unfolding fields_ok
 returns-then-horizon_ok c =
     let d = c in
-    simp (lines d.before.before.before, said d.horizon_ok_lem.ensures d.if-horizon_ok.true) c.Size-ok.ensures
+    simp (lines (goal.at.returns-then-horizon_ok d).Then-lines_ok, said d.horizon_ok.ensures d.if-horizon_ok.true) c.size_ok.ensures
 
 pub returns-else-horizon_ok : goal.returns-else-horizon_ok
 unfolding fields_ok
-returns-else-horizon_ok c = simp (lines c.before.before, said c.horizon_ok_lem.ensures c.if-horizon_ok.false)
+returns-else-horizon_ok c = simp (lines (goal.at.returns-else-horizon_ok c).Then-lines_ok, said c.horizon_ok.ensures c.if-horizon_ok.false)
 
 pub returns-else-lines_ok : goal.returns-else-lines_ok
 unfolding fields_ok

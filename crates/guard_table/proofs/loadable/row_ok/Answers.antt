@@ -7,12 +7,11 @@ use Rattle.guard_table.specs.Model.Inside.{RowInside}
 use Rattle.guard_table.specs.Laws.GuardTable.{sized_row, row_shows, header_inside}
 use Rattle.guard_table.specs.Meaning.Loadable.{row_ok}
 use Rattle.guard_table.specs.declared.kind.RowKind.{RowKind}
-use Rattle.guard_table.proofs.loadable.row_ok.Lts
-use Rattle.guard_table.proofs.loadable.row_ok.Reads
+use Rattle.guard_table.proofs.loadable.row_ok.Goals.{After-row_is, Start}
 use Rattle.guard_table.proofs.loadable.row_ok.Goals as goal
 
 -- the row lies inside the slice
-inside : (c : Lts.Start Reads.Pre Reads.Post) → RowInside c.args.t.now (kind_of c.args.t.now) c.args.inputs c.args.place
+inside : (c : Start) → RowInside c.args.t.now (kind_of c.args.t.now) c.args.inputs c.args.place
 inside c = sized_row c.requires.0 c.requires.1.1
 
 -- a header that was tested by the kind that was found
@@ -22,17 +21,17 @@ header-tested : (t : List ℕ) (inputs place : ℕ) {kind : RowKind} → kind �
 header-tested t inputs place k a s {f} e =
     ap (λ (x : RowKind). header_is t (row_at x inputs place) (row_size x inputs) (kind_number x)) (sym k) ∙ rw (← a, ← s) e
 
-headed : (c : Lts.After-row_is Reads.Pre Reads.Post) (f : Bool) → c.row_is.result ≡ f →
+headed : (c : After-row_is) (f : Bool) → c.row_is.result ≡ f →
     let t = c.args.t.now in
     let a = c.args in
     header_is t (row_at (kind_of t) a.inputs a.place) (row_size (kind_of t) a.inputs) (kind_number (kind_of t)) ≡ f
 headed c f e =
     let at = c in
-    header-tested _ _ _ at.kind_of-kind.ensures at.row_at_lem.ensures.0 at.row_size-size.ensures.0
+    header-tested _ _ _ at.kind_of-kind.ensures at.row_at-at.ensures.0 at.row_size-size.ensures.0
     (said c.row_is.ensures e)
 
 pub kind_of-kind-requires : goal.kind_of-kind-requires
-kind_of-kind-requires c = row_shows (inside c.before)
+kind_of-kind-requires c = row_shows (inside (goal.at.kind_of-kind-requires c).Start)
 
 pub row_size-size-requires : goal.row_size-size-requires
 row_size-size-requires c = c.requires.0.inputs_most
@@ -44,12 +43,12 @@ pub overflow_cast-size : goal.overflow_cast-size
 overflow_cast-size c = omega (arith, c.row_size-size.ensures.1)
 
 pub row_is-requires : goal.row_is-requires
-row_is-requires c = omega (arith, header_inside _ (rw (← c.kind_of-kind.ensures) at (inside c.before.before.before.before)), c.row_at_lem.ensures.0)
+row_is-requires c = omega (arith, header_inside _ (rw (← c.kind_of-kind.ensures) at (inside (goal.at.row_is-requires c).Start)), c.row_at-at.ensures.0)
 
 pub returns-then-row_is : goal.returns-then-row_is
 unfolding row_ok
-returns-then-row_is c = let d = c in simp (headed d.before.before true d.if-row_is.true, c.entries_ok.ensures)
+returns-then-row_is c = let d = c in simp (headed (goal.at.returns-then-row_is d).After-row_is true d.if-row_is.true, c.entries_ok.ensures)
 
 pub returns : goal.returns
 unfolding row_ok
-returns c = simp (headed c.before false c.if-row_is.false)
+returns c = simp (headed (goal.at.returns c).After-row_is false c.if-row_is.false)

@@ -28,5 +28,5 @@ returns c =
     simp (
       le-leb 1 a.count (omega arith),
       le-leb a.count (states_most a.layout.kind) (omega (arith, d.states.ensures)),
-      c.table_length_lem.ensures,
+      c.table_length.ensures,
     )

@@ -5,16 +5,17 @@ use Rattle.guard_table.specs.Meaning.RowKind.{kind_number}
 use Rattle.guard_table.specs.Meaning.GuardTable.{head_kind}
 use Rattle.guard_table.specs.Model.Parts.{part_of}
 use Rattle.guard_table.specs.declared.kind.RowKind.TheVariants.{Narrow, Wide}
+use Rattle.guard_table.proofs.part.part_at.Goals.{In-16, In-17, In-20}
 use Rattle.guard_table.proofs.part.part_at.Goals as goal
 
 -- the kind that was read in each arm
-head : (c : goal.In-16) → c.u16_at.result ≡ head_kind
+head : (c : In-16) → c.u16_at.result ≡ head_kind
 head c = omega arith
 
-narrow : (c : goal.In-17) → c.u16_at.result ≡ kind_number Narrow
+narrow : (c : In-17) → c.u16_at.result ≡ kind_number Narrow
 narrow c = omega arith
 
-wide : (c : goal.In-20) → c.u16_at.result ≡ kind_number Wide
+wide : (c : In-20) → c.u16_at.result ≡ kind_number Wide
 wide c = omega arith
 
 pub returns-in-16 : goal.returns-in-16

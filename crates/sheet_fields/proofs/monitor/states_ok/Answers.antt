@@ -5,10 +5,11 @@ use native.Mathlib.Nat.{mul-le-mul}
 use Rattle.records.specs.Laws.Tests.{cases}
 use Rattle.records.specs.Meaning.Limits.{max_monitor_states}
 use Rattle.sheet_fields.specs.Meaning.Monitor.{states_ok}
+use Rattle.sheet_fields.proofs.monitor.states_ok.Goals.{Else-states-start}
 use Rattle.sheet_fields.proofs.monitor.states_ok.Goals as goal
 
 -- the size of the rows
-rows : (c : goal.Else-states-start) → c.args.states * c.args.letters ≤ max_monitor_states * 64
+rows : (c : Else-states-start) → c.args.states * c.args.letters ≤ max_monitor_states * 64
 rows c =
     let at = c.args in
     mul-le-mul {n₁ = at.states} {m₁ = at.letters} {n₂ = max_monitor_states} {m₂ = 64} (omega arith) (omega arith)

@@ -5,9 +5,10 @@ use native.Mathlib.Nat.{mul-le-mul}
 use Rattle.records.specs.Meaning.Limits.{max_states}
 use Rattle.guard_table.specs.Meaning.GuardTable.{row_at}
 use Rattle.guard_table.specs.Model.Inside.{row_most}
+use Rattle.guard_table.proofs.layout.Layout.row_at.Goals.{After-row_length}
 use Rattle.guard_table.proofs.layout.Layout.row_at.Goals as goal
 
-rows : (c : goal.After-row_length) → c.args.place * c.row_length_lem.result ≤ max_states * (4 + row_most)
+rows : (c : After-row_length) → c.args.place * c.row_length.result ≤ max_states * (4 + row_most)
 rows c = mul-le-mul {n₂ = max_states} {m₂ = 4 + row_most} (omega arith) (omega arith)
 
 pub overflow_mul-result : goal.overflow_mul-result
@@ -18,4 +19,4 @@ overflow_add-result c = omega (arith, rows c)
 
 pub returns : goal.returns
 unfolding row_at
-returns c = (simp c.row_length_lem.ensures.0, omega (arith, rows c))
+returns c = (simp c.row_length.ensures.0, omega (arith, rows c))

@@ -3,12 +3,13 @@ use Rattle.std.proofs.Common.{ap₂, arith, ◌*◌, ◌≡◌, ◌≤◌}
 use Rattle.guard_table.specs.Meaning.GuardTable.{row_size}
 use Rattle.guard_table.specs.Model.Inside.{row_most}
 use Rattle.guard_table.specs.Laws.GuardTable.{row_most_lem}
+use Rattle.guard_table.proofs.layout.Layout.row_size.Goals.{After-pow2}
 use Rattle.guard_table.proofs.layout.Layout.row_size.Goals as goal
 
-size : (c : goal.After-pow2) → let s = c.args.self in c.width.result * c.pow2.result ≡ row_size s.kind s.inputs
+size : (c : After-pow2) → let s = c.args.self in c.width.result * c.pow2.result ≡ row_size s.kind s.inputs
 size c = ap₂ ◌*◌ c.width.ensures c.pow2.ensures
 
-most : (c : goal.After-pow2) → c.width.result * c.pow2.result ≤ row_most
+most : (c : After-pow2) → c.width.result * c.pow2.result ≤ row_most
 most c = let s = c.args.self in omega (arith, size c, row_most_lem s.kind s.inputs c.requires)
 
 pub overflow_mul-result : goal.overflow_mul-result

@@ -4,4 +4,4 @@ use Rattle.guard_table.proofs.layout.Layout.table_length.Goals as goal
 
 pub returns : goal.returns
 unfolding length_in row_at
-returns c = c.row_at_lem.ensures.0
+returns c = c.row_at.ensures.0
