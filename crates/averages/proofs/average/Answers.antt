@@ -11,4 +11,4 @@ int_to_float-result-2 c = cast_fits _ c.requires.words_nonzero.1
 pub returns : goal.returns
 returns c =
     let p = c.requires in
-    quotient _ _ p.0 p.1.0 p.1.1
+    quotient _ _ p.sum_bound p.words_nonzero.0 p.words_nonzero.1

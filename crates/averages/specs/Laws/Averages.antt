@@ -4,7 +4,7 @@
 -- Assumes nothing.
 use Rattle.std.specs.Prelude.{◌≡◌, refl, Bool, true, false, not, cond, ℕ, zero, suc, ◌+◌, ◌-◌, ◌*◌, ◌^◌, ◌≤◌, ◌<◌, T, ltb, pos, Float}
 use Rattle.std.proofs.Common.{sym, ap, ◌∙◌, true≢false, inl, inr, mul-one, one-mul, zero-mul, mul_assoc, mul_comm, mul_left_comm, mul-pos, lt_of_lt_of_le, eq-or-lt_of_le, arith, ne_eqb, le→leb, lit<, pow-add, pow_pos, pow_mono, shl_lt}
-use Rattle.std.specs.Float.{inf, fin, Format, binary64}
+use Rattle.std.specs.Float.{nan, inf, fin, Format, binary64}
 use Rattle.std.specs.Float.Ieee.{prec, emax, low, up, down, odd, units, round, div, of_int, in_float, is_nan, of_bits, to_bits}
 use Rattle.std.specs.Float.Ieee.Bits.{of_bits-to_bits}
 use Rattle.std.specs.Float.Ieee.Fits.{down_pos, round-fits}
@@ -28,7 +28,11 @@ cast_value n h = round_whole binary64 false n h
 -- the quotient of two floats with whole values
 div_whole : (f : Format) (x y : Float) (a b : ℕ) → 0 < b → HasValue x false a 1 → HasValue y false b 1 → div f x y ≡ round f false a b
 unfolding div
+div_whole f nan y a b B h k = elim h [ ]
+div_whole f (inf _) y a b B h k = elim h [ ]
 div_whole f (fin true m e) y a b B h k = absurd (true≢false h.0)
+div_whole f (fin false m e) nan a b B h k = elim k [ ]
+div_whole f (fin false m e) (inf _) a b B h k = elim k [ ]
 div_whole f (fin false m e) (fin true n d) a b B h k = absurd (true≢false k.0)
 div_whole f (fin false m e) (fin false n d) a b B h k =
     let p : m * up e ≡ a * down e = sym (mul-one _) ∙ h.1 in

@@ -1,11 +1,10 @@
 -- `rounds::mask_of`: the bits of the outputs before o are set. Assumes nothing.
 use Rattle.std.proofs.Common.{Bool, arith, sym, ◌∙◌, ◌≡◌}
-use mathlib.Core.Logic.{⊎_elim}
 use Rattle.records.specs.Laws.Tests.{said}
 use Rattle.rounds.specs.Laws.Masks.{allows, mask_bits, mask_lost}
 use Rattle.rounds.specs.Laws.CellPlaces.{in_row, leads_at}
 use Rattle.rounds.proofs.Masking.{begin, fits, bit_on, bit_off, end}
-use Rattle.rounds.proofs.mask_of.Goals.{After-leads_to_kept}
+use Rattle.rounds.proofs.mask_of.Goals.{After-leads_to_kept, then-leads_to_kept, else-leads_to_kept}
 use Rattle.rounds.proofs.mask_of.Goals as goal
 
 -- the test of output o, as the calls answered it
@@ -16,7 +15,7 @@ allowed : (c : After-leads_to_kept) {b : Bool} → c.leads_to_kept.result ≡ b 
 unfolding allows
 allowed c e =
     let passed = c in
-    rw (said passed.is_kept.ensures passed.if-not-is_kept.left, ← c.cell_at.ensures)
+    rw (said passed.is_kept.ensures passed.if-not-is_kept.false, ← c.cell_at.ensures)
     (said c.leads_to_kept.ensures e)
 
 pub returns-then-not-is_kept : goal.returns-then-not-is_kept
@@ -37,8 +36,11 @@ overflow_add-mask c = omega (arith, fits c.loop-o.invariant (omega arith))
 pub loop-o-preserved : goal.loop-o-preserved
 loop-o-preserved c =
     let inv = c.loop-o.invariant in
-    ⊎_elim (λ w. bit_on inv (omega arith) (omega arith) (allowed (goal.at.loop-o-preserved c).After-leads_to_kept w.0.taken) w.1)
-    (λ w. bit_off inv (omega arith) (allowed (goal.at.loop-o-preserved c).After-leads_to_kept w.0.left) w.1) c.if-leads_to_kept.branch
+    let at = (goal.at.loop-o-preserved c).After-leads_to_kept in
+    elim c.if-leads_to_kept.branch [
+      | then-leads_to_kept w ↦ bit_on inv (omega arith) (omega arith) (allowed at w.if-leads_to_kept.true) w.mask-is
+      | else-leads_to_kept w ↦ bit_off inv (omega arith) (allowed at w.if-leads_to_kept.false) w.mask-is
+    ]
 
 pub returns : goal.returns
 returns c = end c.loop-o.invariant c.loop-o-test.false ∙ sym (mask_bits _ _ _ _ _ _)

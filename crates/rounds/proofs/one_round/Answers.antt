@@ -1,10 +1,9 @@
 -- `rounds::one_round`: the states before k have their entries after the round. Assumes nothing.
 use Rattle.std.proofs.Common.{Bool, arith, ◌≡◌}
-use mathlib.Core.Logic.{⊎_elim}
 use Rattle.records.specs.Laws.Tests.{said}
 use Rattle.rounds.specs.Model.InPlace.{drops}
 use Rattle.rounds.proofs.Turn.{begin, same, lost_most, drop, keep, end}
-use Rattle.rounds.proofs.one_round.Goals.{After-round_drops}
+use Rattle.rounds.proofs.one_round.Goals.{After-round_drops, then-round_drops, else-round_drops}
 use Rattle.rounds.proofs.one_round.Goals as goal
 
 -- what the call answered
@@ -32,10 +31,10 @@ pub loop-k-preserved : goal.loop-k-preserved
 loop-k-preserved c =
     let at = c in
     let pre = at.requires in
-    ⊎_elim
-    (λ w. drop at.loop-k.invariant pre.0 pre.1.0 pre.1.1 (omega arith) (dropping (goal.at.loop-k-preserved c).After-round_drops w.0.taken) w.1 w.2)
-    (λ w. keep at.loop-k.invariant pre.0 pre.1.0 pre.1.1 (omega arith) (dropping (goal.at.loop-k-preserved c).After-round_drops w.0.left) w.1 w.2)
-    c.if-round_drops.branch
+    elim c.if-round_drops.branch [
+      | then-round_drops w ↦ drop at.loop-k.invariant pre.steps pre.n_in_bounds pre.by_index (omega arith) (dropping (goal.at.loop-k-preserved c).After-round_drops w.if-round_drops.true) w.dropped-is w.lost-is
+      | else-round_drops w ↦ keep at.loop-k.invariant pre.steps pre.n_in_bounds pre.by_index (omega arith) (dropping (goal.at.loop-k-preserved c).After-round_drops w.if-round_drops.false) w.dropped-is w.lost-is
+    ]
 
 pub shape_of-dropped : goal.shape_of-dropped
 shape_of-dropped c = same c.loop-k.invariant

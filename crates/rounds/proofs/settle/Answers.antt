@@ -13,9 +13,9 @@ turned : (c : After-dropped-in-loop-lost-1) →
     let a = c.args in
     let at = c.loop-lost in
     let made = c.one_round-lost in
-    Turned a.cells.now a.n a.ins a.outs a.dropped-1.now c.clear_front16.new.work
-    at.dropped-1 made.new.1.0 at.kept at.made made.result
-turned c = record { began = begun c; inv = c.loop-lost.invariant; turn = c.one_round-lost.ensures }
+    Turned a.cells.now a.n a.ins a.outs a.dropped.now c.clear_front16.new.work
+    at.dropped made.new.dropped at.kept at.made made.result
+turned c = record { began = record { room = c.requires.n_in_bounds.0; cleared = c.clear_front16.ensures }; inv = c.loop-lost.invariant; turn = c.one_round-lost.ensures }
 
 pub loop-lost-init : goal.loop-lost-init
 loop-lost-init c = begin _ _ _ _ (begun (goal.at.loop-lost-init c).After-dropped-1)

@@ -2,7 +2,6 @@
 -- input i.
 -- Assumes nothing.
 use Rattle.std.proofs.Common.{arith, true, ◌*◌, ◌+◌, ◌<◌, ◌≤◌}
-use mathlib.Core.Logic.{⊎_elim}
 use lib.ListN.{length}
 use Rattle.records.specs.Laws.Tests.{said}
 use Rattle.records.specs.Laws.Bounded.{all_none, all_more}
@@ -10,6 +9,7 @@ use Rattle.rounds.specs.Laws.CellPlaces.{max_index, row_in_table, leads_at}
 use Rattle.rounds.proofs.Search.{search_begin, search_output, search_more, search_found, one_failed, all_passed}
 use Rattle.rounds.proofs.Search.{first_fits, next_fits}
 use Rattle.rounds.proofs.state_stays.Goals.{Else-end-at, Start}
+use Rattle.rounds.proofs.state_stays.Goals.{else-inputs-test, then-inputs-test+then-end-at}
 use Rattle.rounds.proofs.state_stays.Goals as goal
 
 -- the state's row lies in the table
@@ -75,5 +75,7 @@ inputs-preserved c =
 
 pub returns : goal.returns
 returns c =
-    ⊎_elim (λ w. all_passed _ _ _ _ _ c.inputs.invariant.0 w.left c.inputs.invariant.1)
-    (λ w. one_failed _ _ _ _ _ w.0.taken w.1.invariant w.2.taken) c.inputs-test.branch
+    elim c.inputs-test.branch [
+      | else-inputs-test w ↦ all_passed _ _ _ _ _ c.inputs.invariant.0 w.inputs-test.false c.inputs.invariant.1
+      | then-inputs-test+then-end-at w ↦ one_failed _ _ _ _ _ w.inputs-test.true w.search.invariant w.if-end-at.true
+    ]

@@ -1,0 +1,35 @@
+-- `board::Board::load`: the tests in the definition's order. Assumes nothing.
+use Rattle.std.proofs.Common.{false, ◌≡◌}
+use Rattle.records.specs.Laws.Tests.{said}
+use Rattle.board.specs.Meaning.Board.{live}
+use Rattle.board.specs.Meaning.Load.{load_on}
+use Rattle.guard_table.specs.Laws.LoadableFacts.{loadable-head}
+use Rattle.board.proofs.Promises.{load_promise}
+use Rattle.board.proofs.Board.load.Goals.{Else-is_live}
+use Rattle.board.proofs.Board.load.Goals as goal
+
+-- the board counts as empty past the first test
+idle : (c : Else-is_live) → live c.args.self ≡ false
+idle c = said c.is_live.ensures c.if-is_live.false
+
+pub returns-then-is_live : goal.returns-then-is_live
+unfolding load_on
+returns-then-is_live c =
+    let d = c in
+    load_promise _ _ _ (simp (c.of.ensures, said d.is_live.ensures d.if-is_live.true))
+
+pub board_of-requires : goal.board_of-requires
+board_of-requires c = (loadable-head _ (said c.is_loadable.ensures c.if-is_loadable.true)).long
+
+pub returns-then-is_loadable : goal.returns-then-is_loadable
+unfolding load_on
+returns-then-is_loadable c =
+    let d = c in
+    load_promise _ _ _
+    (simp (c.of-then-is_loadable.ensures, idle (goal.at.returns-then-is_loadable d).Else-is_live, said d.is_loadable.ensures d.if-is_loadable.true, c.board_of.ensures))
+
+pub returns : goal.returns
+unfolding load_on
+returns c =
+    let d = c in
+    load_promise _ _ _ (simp (c.of-2.ensures, idle (goal.at.returns d).Else-is_live, said d.is_loadable.ensures d.if-is_loadable.false))
