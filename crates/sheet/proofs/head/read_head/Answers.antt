@@ -1,6 +1,6 @@
 -- `sheet::head::read_head`: the tests in the definition's order; a head in order lies inside the bytes.
 -- Assumes nothing.
-use Rattle.std.proofs.Common.{List, arith, sym, true, ℕ, ◌≡◌}
+use Rattle.std.proofs.Common.{arith, sym, true, ◌≡◌}
 use Rattle.records.specs.Laws.Tests.{said}
 use Rattle.sheet.specs.Meaning.Decoded.{guard_lines}
 use Rattle.sheet_fields.specs.Meaning.Places.{mode_at, site_at, outputs_at}
@@ -10,23 +10,16 @@ use Rattle.sheet_fields.specs.Laws.FieldFacts.{FieldNumbers, head_facts}
 use Rattle.sheet.proofs.head.read_head.Goals.{After-guard_lines-inputs, Else-not-head_ok}
 use Rattle.sheet.proofs.head.read_head.Goals as goal
 
--- the bytes and where the head's begin
-abbrev bytes : Else-not-head_ok → List ℕ
-bytes c = c.args.s.now
-
-abbrev from : Else-not-head_ok → ℕ
-from c = c.args.start
-
 -- what the test tells where it was passed
-ok : (c : Else-not-head_ok) → head_ok (bytes c) (from c) c.args.size ≡ true
+ok : (c : Else-not-head_ok) → head_ok c.args.s.now c.args.start c.args.size ≡ true
 ok c = said c.head_ok.ensures c.if-not-head_ok.false
 
-known : (c : Else-not-head_ok) → FieldNumbers (site_at (bytes c) (from c)) (outputs_at (bytes c) (from c)) c.args.size
+known : (c : Else-not-head_ok) → FieldNumbers (site_at c.args.s.now c.args.start) (outputs_at c.args.s.now c.args.start) c.args.size
 known c = head_facts _ _ _ (ok c)
 
 -- the horizon is held to the guard's inputs
 inputs : (c : After-guard_lines-inputs) → let e = c in
-    guard_lines (mode_at (bytes e) (from e)) (site_at (bytes e) (from e)) (outputs_at (bytes e) (from e)) ≡ c.guard_lines-inputs.result
+    guard_lines (mode_at e.args.s.now e.args.start) (site_at e.args.s.now e.args.start) (outputs_at e.args.s.now e.args.start) ≡ c.guard_lines-inputs.result
 inputs c = sym c.guard_lines-inputs.ensures
 
 pub returns-then-not-head_ok : goal.returns-then-not-head_ok

@@ -1,6 +1,6 @@
 -- `sheet::monitor::monitor_ok`: the tests in the definition's order; a body whose numbers are in order has room for its tables.
 -- Assumes nothing.
-use Rattle.std.proofs.Common.{List, arith, leb, true, ℕ, ◌≡◌}
+use Rattle.std.proofs.Common.{arith, leb, true, ◌≡◌}
 use borrow.Author.Tests.{le-leb}
 use Rattle.records.specs.Laws.Tests.{cases, said}
 use Rattle.sheet_fields.specs.Meaning.Places.{role_at, weight_at, states_at, first_at, accept_from}
@@ -9,33 +9,26 @@ use Rattle.sheet_fields.specs.Laws.FieldFacts.{States, states_facts}
 use Rattle.sheet.proofs.monitor.monitor_ok.Goals.{After-bytes_most, After-states_ok, Else-not-states_ok}
 use Rattle.sheet.proofs.monitor.monitor_ok.Goals as goal
 
--- the bytes and where the monitor's begin
-abbrev bytes : After-states_ok → List ℕ
-bytes c = c.args.s.now
-
-abbrev from : After-states_ok → ℕ
-from c = c.args.start
-
 -- the tests passed before the numbers'
 sized : (c : After-states_ok) → leb 4 c.args.size ≡ true
 sized c = le-leb 4 c.args.size (omega arith)
 
 role : (c : After-states_ok)
-    → role_ok c.args.sheet.mode (role_at (bytes c) (from c)) (weight_at (bytes c) (from c)) ≡ true
+    → role_ok c.args.sheet.mode (role_at c.args.s.now c.args.start) (weight_at c.args.s.now c.args.start) ≡ true
 role c = said c.role_ok.ensures c.if-not-role_ok.false
 
 -- the numbers' test where it was passed, and what it tells
 numbers : (c : Else-not-states_ok) → let t = c in
-    states_ok (states_at (bytes t) (from t)) (first_at (bytes t) (from t)) t.letters_read-letters.result t.args.size ≡ true
+    states_ok (states_at t.args.s.now t.args.start) (first_at t.args.s.now t.args.start) t.letters_read-letters.result t.args.size ≡ true
 numbers c = said c.states_ok.ensures c.if-not-states_ok.false
 
 known : (c : Else-not-states_ok) → let t = c in
-    States (states_at (bytes t) (from t)) (first_at (bytes t) (from t)) t.letters_read-letters.result t.args.size
+    States (states_at t.args.s.now t.args.start) (first_at t.args.s.now t.args.start) t.letters_read-letters.result t.args.size
 known c = states_facts _ _ _ _ (numbers c)
 
 -- each accept byte is held to 1
 accepts : (c : After-bytes_most) → let t = c in
-    c.bytes_most.result ≡ bytes_most (bytes t) (accept_from (from t)) (states_at (bytes t) (from t)) 1
+    c.bytes_most.result ≡ bytes_most t.args.s.now (accept_from t.args.start) (states_at t.args.s.now t.args.start) 1
 accepts c = c.bytes_most.ensures
 
 pub returns-then-size-lt-MONITOR : goal.returns-then-size-lt-MONITOR

@@ -1,23 +1,19 @@
 -- `sheet::monitor::take_monitor`: the tests in the definition's order. Assumes nothing.
-use Rattle.std.proofs.Common.{arith, false, leb, true, ℕ, ◌≡◌}
+use Rattle.std.proofs.Common.{arith, false, leb, true, ◌≡◌}
 use borrow.Author.Tests.{le-leb, lt-leb}
 use Rattle.records.specs.Laws.Tests.{said}
 use Rattle.records.specs.Meaning.Limits.{max_monitors}
 use Rattle.sheet.specs.Model.MonitorRecord.{take_monitor}
 use Rattle.sheet.proofs.Facts.{monitor_least}
-use Rattle.sheet.proofs.monitor.take_monitor.Goals.{Else-sheet-ge-MONITORS, Start, Then-sheet-ge-MONITORS}
+use Rattle.sheet.proofs.monitor.take_monitor.Goals.{Else-sheet-ge-MONITORS, Then-sheet-ge-MONITORS}
 use Rattle.sheet.proofs.monitor.take_monitor.Goals as goal
 
--- the monitors taken so far
-abbrev count : Start → ℕ
-count c = c.args.sheet.count
-
 -- whether there is room for one more
-full : (c : Then-sheet-ge-MONITORS) → leb max_monitors (count c) ≡ true
-full c = le-leb max_monitors (count c) (omega arith)
+full : (c : Then-sheet-ge-MONITORS) → leb max_monitors c.args.sheet.count ≡ true
+full c = le-leb max_monitors c.args.sheet.count (omega arith)
 
-room : (c : Else-sheet-ge-MONITORS) → leb max_monitors (count c) ≡ false
-room c = lt-leb max_monitors (count c) (omega arith)
+room : (c : Else-sheet-ge-MONITORS) → leb max_monitors c.args.sheet.count ≡ false
+room c = lt-leb max_monitors c.args.sheet.count (omega arith)
 
 pub returns-then-sheet-ge-MONITORS : goal.returns-then-sheet-ge-MONITORS
 unfolding take_monitor

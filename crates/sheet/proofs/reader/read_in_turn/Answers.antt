@@ -1,6 +1,5 @@
 -- `sheet::reader::read_in_turn`: the first record is a head, and the walk goes on from it. Assumes nothing.
-use Rattle.std.proofs.Common.{arith, eqb, false, true, ℕ, ◌≡◌}
-use mathlib.Core.Logic.{⊎_elim}
+use Rattle.std.proofs.Common.{arith, eqb, false, true, ◌≡◌}
 use borrow.Author.Tests.{eq-eqb, ne_eqb}
 use Rattle.records.specs.Laws.Tests.{said}
 use Rattle.records.specs.Meaning.Records.{read_at}
@@ -9,32 +8,29 @@ use Rattle.records.specs.declared.cursor.Found.{Found}
 use Rattle.records.specs.declared.cursor.Found.TheVariants as found
 use Rattle.sheet.specs.Model.Reader.{reading, first_found}
 use Rattle.sheet.proofs.Walk.{head-lines}
-use Rattle.sheet.proofs.reader.read_in_turn.Goals.{After-read, In-0-2, In-1, In-Record, In-Record-2}
+use Rattle.sheet.proofs.reader.read_in_turn.Goals.{After-read, In-0-2, In-1, In-Record, in-0-1, in_default-1}
 use Rattle.sheet.proofs.reader.read_in_turn.Goals as goal
-
--- the kind of a record at its arm
-abbrev kind_of : In-Record → ℕ
-kind_of c = c.in-Record.is.0.0
 
 -- what the cursor found first
 first : (c : After-read) {f : Found} → c.read.result ≡ f → read_at c.args.s.now 0 ≡ f
 first c e = rw c.first.ensures at (said c.read.ensures.whole e)
 
-here : (c : In-Record-2)
+here : (c : In-Record)
     → read_at c.args.s.now 0
-    ≡ found.Record c.in-Record.is.0.0 c.in-Record.is.0.1.0 c.in-Record.is.0.1.1.0 c.in-Record.is.0.1.1.1.0
-here c = first c c.in-Record.is
+    ≡ found.Record c.in-Record.kind c.in-Record.start c.in-Record.size c.in-Record.next
+here c = rw c.first.ensures at (said c.read.ensures.whole c.in-Record.is)
 
 -- a head's kind, and any other
-is-head : (c : In-1) → eqb (kind_of c) 1 ≡ true
-is-head c = eq-eqb (kind_of c) 1 (omega arith)
+is-head : (c : In-1) → eqb c.in-Record.kind 1 ≡ true
+is-head c = eq-eqb c.in-Record.kind 1 (omega arith)
 
-other : (c : In-0-2) → eqb (kind_of c) 1 ≡ false
-other c = ne_eqb (kind_of c) 1 (λ z. ⊎_elim (λ w. omega arith) (λ w. omega arith) c.in-0-1.branch)
+other : (c : In-0-2) → eqb c.in-Record.kind 1 ≡ false
+other c =
+    ne_eqb c.in-Record.kind 1 (λ z. elim c.in-0-1.branch [ in-0-1 w ↦ omega arith | in_default-1 w ↦ omega arith ])
 
 pub read_head-head-requires : goal.read_head-head-requires
 read_head-head-requires c =
-    let l = lies _ _ (here (goal.at.read_head-head-requires c).In-Record-2) in
+    let l = lies _ _ (here (goal.at.read_head-head-requires c).In-Record) in
     omega arith
 
 pub read_records-requires : goal.read_records-requires
@@ -59,7 +55,7 @@ unfolding reading first_found
 returns-in-Accepted c =
     let t = c in
     let m = t in
-    simp (here (goal.at.returns-in-Accepted m).In-Record-2, is-head (goal.at.returns-in-Accepted m).In-1, ← t.read_head-head.ensures, c.in-Accepted.is) c.read_records.ensures
+    simp (here (goal.at.returns-in-Accepted m).In-Record, is-head (goal.at.returns-in-Accepted m).In-1, ← t.read_head-head.ensures, c.in-Accepted.is) c.read_records.ensures
 
 pub returns-in-Refused : goal.returns-in-Refused
 unfolding reading first_found
@@ -67,10 +63,10 @@ returns-in-Refused c =
     let v = c in
     let t = v in
     let m = t in
-    simp (here (goal.at.returns-in-Refused m).In-Record-2, is-head (goal.at.returns-in-Refused m).In-1, ← t.read_head-head.ensures, v.in-Refused.is) c.refused-in-Refused.ensures
+    simp (here (goal.at.returns-in-Refused m).In-Record, is-head (goal.at.returns-in-Refused m).In-1, ← t.read_head-head.ensures, v.in-Refused.is) c.refused-in-Refused.ensures
 
 pub returns-in-0 : goal.returns-in-0
 unfolding reading first_found
 returns-in-0 c =
     let m = c in
-    simp (here (goal.at.returns-in-0 m).In-Record-2, other (goal.at.returns-in-0 m).In-0-2) c.refused-in-0.ensures
+    simp (here (goal.at.returns-in-0 m).In-Record, other (goal.at.returns-in-0 m).In-0-2) c.refused-in-0.ensures

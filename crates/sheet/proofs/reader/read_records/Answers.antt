@@ -6,13 +6,13 @@ use Rattle.records.specs.Laws.Cursor.{lies}
 use Rattle.records.specs.declared.cursor.Found.TheVariants as found
 use Rattle.records.specs.Laws.Tests.{said}
 use Rattle.sheet.proofs.Walk.{begin, ended, cut, stopped, more}
-use Rattle.sheet.proofs.reader.read_records.Goals.{In-Record-2}
+use Rattle.sheet.proofs.reader.read_records.Goals.{In-Record}
 use Rattle.sheet.proofs.reader.read_records.Goals as goal
 
 -- what the cursor found
-here : (c : In-Record-2)
+here : (c : In-Record)
     → read_at c.args.s.now c.loop-kind.at
-    ≡ found.Record c.in-Record.is.0.0 c.in-Record.is.0.1.0 c.in-Record.is.0.1.1.0 c.in-Record.is.0.1.1.1.0
+    ≡ found.Record c.in-Record.kind c.in-Record.start c.in-Record.size c.in-Record.next
 here c = said c.read.ensures.whole c.in-Record.is
 
 pub loop-kind-init : goal.loop-kind-init
@@ -33,21 +33,21 @@ returns-in-Truncated c =
 pub take_record-taken-requires : goal.take_record-taken-requires
 take_record-taken-requires c =
     let t = c in
-    let l = lies _ _ (here (goal.at.take_record-taken-requires t).In-Record-2) in
+    let l = lies _ _ (here (goal.at.take_record-taken-requires t).In-Record) in
     omega (arith, t.loop-kind.invariant.lines_most)
 
 pub loop-kind-smaller : goal.loop-kind-smaller
 loop-kind-smaller c =
-    let l = lies _ _ (here (goal.at.loop-kind-smaller c).In-Record-2) in
+    let l = lies _ _ (here (goal.at.loop-kind-smaller c).In-Record) in
     omega arith
 
 pub loop-kind-preserved : goal.loop-kind-preserved
 loop-kind-preserved c =
     let t = c in
-    more t.loop-kind.invariant (here (goal.at.loop-kind-preserved t).In-Record-2) t.take_record-taken.ensures c.in-Accepted.is
+    more t.loop-kind.invariant (here (goal.at.loop-kind-preserved t).In-Record) t.take_record-taken.ensures c.in-Accepted.is
 
 pub returns-in-Refused : goal.returns-in-Refused
 returns-in-Refused c =
     let v = c in
     let t = v in
-    c.refused-in-Refused.ensures ∙ stopped t.loop-kind.invariant (here (goal.at.returns-in-Refused t).In-Record-2) t.take_record-taken.ensures v.in-Refused.is
+    c.refused-in-Refused.ensures ∙ stopped t.loop-kind.invariant (here (goal.at.returns-in-Refused t).In-Record) t.take_record-taken.ensures v.in-Refused.is
