@@ -14,7 +14,7 @@ use Rattle.guard_table.specs.Meaning.Loadable.{loadable}
 use Rattle.board.specs.Meaning.Load.{board_of}
 use Rattle.board.specs.Meaning.BoardStep.{board_moved}
 use Rattle.board.specs.Meaning.Calls.{load_says, step_says, change_says, board_after, says}
-use Rattle.board.specs.Meaning.Deviations.{Event, last, history, run_of, Counts, KeepsCount}
+use Rattle.board.specs.Meaning.Deviations.{Event, last, history, Counts, KeepsCount}
 use Rattle.board.specs.Laws.Calls.{empty_board_lem, load_empty, load_bad, step_empty, rewind_empty, unload_empty, load_occupied, rewind_live, unload_live, step_case, refused, taken}
 use Rattle.board.specs.declared.Board.{Board}
 use Rattle.board.specs.declared.answers.Loading.{Loading}

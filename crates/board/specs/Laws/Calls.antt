@@ -1,6 +1,6 @@
 -- What the calls on a board do, as the layers above use it.
 -- Assumes nothing.
-use Rattle.std.specs.Prelude.{◌≡◌, Bool, false, cond, ◌&&◌, List, ℕ, ◌+◌, ◌-◌, ◌*◌, ◌^◌, ◌≤◌, ◌<◌, ltb, leb, eqb, length}
+use Rattle.std.specs.Prelude.{◌≡◌, Bool, false, cond, List, ℕ, ◌+◌, ◌*◌, ◌^◌, ◌≤◌, ◌<◌, ltb, leb, eqb, length}
 use Rattle.std.proofs.Math.Path.{refl}
 use Rattle.std.proofs.Common.{ap, ◌∙◌, add_comm, mul_comm, arith}
 use Rattle.std.proofs.Math.Bool.{true}
@@ -24,7 +24,7 @@ use Rattle.board.specs.declared.Board.{Board}
 use Rattle.board.specs.declared.answers.Load.{Load}
 use Rattle.board.specs.declared.answers.Loading.{Loading}
 use Rattle.board.specs.declared.answers.Step.{Step}
-use Rattle.board.specs.declared.answers.Step.TheVariants.{Empty, Spent, BadInput, BadTable}
+use Rattle.board.specs.declared.answers.Step.TheVariants.{Spent, BadInput, BadTable}
 use Rattle.board.specs.declared.answers.Change.{Change}
 use Rattle.board.specs.declared.answers.Changing.{Changing}
 

@@ -18,8 +18,9 @@ fits : (c : After-entry_ok) (f : Bool) → c.entry_ok.result ≡ f → let a = c
     entry_fits a.self a.table.now a.input ≡ f
 unfolding entry_fits
 fits c f e =
+    let fitting : length_fits c.args.self c.args.table.now ≡ true = said c.length_fits.ensures c.if-not-length_fits.false in
     let d = c in
-    simp (fitting d)
+    simp (fitting)
     (entry_tested _ _ _ _ _ _ d.entry_in-entry.ensures.0 d.entry_in-entry.ensures.1 (said c.entry_ok.ensures e))
 
 pub length_fits-requires : goal.length_fits-requires

@@ -1,11 +1,10 @@
--- `board::Board::boardMoved`: one deviation more where the output is not the proposal. Assumes nothing.
+-- `board::Board::moved`: one deviation more where the output is not the proposal. Assumes nothing.
 use Rattle.std.proofs.Common.{arith}
 use native.Mathlib.Nat.{add-zero}
-use mathlib.Core.Logic.{⊎_elim}
 use Rattle.records.specs.Laws.Tests.{said}
 use Rattle.board.specs.Meaning.BoardStep.{board_moved}
 use Rattle.board.specs.Laws.LiveFacts.{Live, live_facts}
-use Rattle.board.proofs.Board.moved.Goals.{Start}
+use Rattle.board.proofs.Board.moved.Goals.{Start, then-deviates, else-deviates}
 use Rattle.board.proofs.Board.moved.Goals as goal
 
 facts : (c : Start) → Live c.args.self
@@ -23,9 +22,9 @@ overflow_add-self c = let h = facts (goal.at.overflow_add-self c).Start in omega
 pub returns : goal.returns
 unfolding board_moved
 returns c =
-    let r = c in
-    let joined = r in
-    let told = joined.deviates.ensures in
-    ⊎_elim (λ w. simp (c.of.ensures, r.run_at.ensures, w.1, said told w.0.taken))
-    (λ w. simp (c.of.ensures, r.run_at.ensures, w.1, said told w.0.left, add-zero))
-    joined.if-deviates.branch
+    elim c.if-deviates.branch [
+      | then-deviates w ↦
+          simp (c.of.ensures, c.run_at.ensures, w.deviations-is, said c.deviates.ensures w.if-deviates.true)
+      | else-deviates w ↦
+          simp (c.of.ensures, c.run_at.ensures, w.deviations-is, said c.deviates.ensures w.if-deviates.false, add-zero)
+    ]
