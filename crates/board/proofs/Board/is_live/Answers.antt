@@ -6,8 +6,7 @@ use Rattle.board.proofs.Board.is_live.Goals as goal
 pub returns-then-lines_ok : goal.returns-then-lines_ok
 unfolding live
 returns-then-lines_ok c =
-    let b = c in
-    simp (b.if-self.true, said b.lines_ok.ensures b.if-lines_ok.true) c.counts_ok.ensures
+    simp (c.if-self.true, said c.lines_ok.ensures c.if-lines_ok.true) c.counts_ok.ensures
 
 pub returns-else-lines_ok : goal.returns-else-lines_ok
 unfolding live

@@ -27,4 +27,4 @@ table_length-requires c =
 
 pub returns : goal.returns
 unfolding length_fits
-returns c = let k = c in simp (shows (goal.at.returns k).Else-not-shows_kind, c.table_length.ensures, k.kind_of.ensures)
+returns c = simp (shows (goal.at.returns c).Else-not-shows_kind, c.table_length.ensures, c.kind_of.ensures)

@@ -15,8 +15,7 @@ idle c = said c.is_live.ensures c.if-is_live.false
 pub returns-then-is_live : goal.returns-then-is_live
 unfolding load_on
 returns-then-is_live c =
-    let d = c in
-    load_promise _ _ _ (simp (c.of.ensures, said d.is_live.ensures d.if-is_live.true))
+    load_promise _ _ _ (simp (c.of.ensures, said c.is_live.ensures c.if-is_live.true))
 
 pub board_of-requires : goal.board_of-requires
 board_of-requires c = (loadable-head _ (said c.is_loadable.ensures c.if-is_loadable.true)).long
@@ -24,12 +23,10 @@ board_of-requires c = (loadable-head _ (said c.is_loadable.ensures c.if-is_loada
 pub returns-then-is_loadable : goal.returns-then-is_loadable
 unfolding load_on
 returns-then-is_loadable c =
-    let d = c in
     load_promise _ _ _
-    (simp (c.of-then-is_loadable.ensures, idle (goal.at.returns-then-is_loadable d).Else-is_live, said d.is_loadable.ensures d.if-is_loadable.true, c.board_of.ensures))
+    (simp (c.of-then-is_loadable.ensures, idle (goal.at.returns-then-is_loadable c).Else-is_live, said c.is_loadable.ensures c.if-is_loadable.true, c.board_of.ensures))
 
 pub returns : goal.returns
 unfolding load_on
 returns c =
-    let d = c in
-    load_promise _ _ _ (simp (c.of-2.ensures, idle (goal.at.returns d).Else-is_live, said d.is_loadable.ensures d.if-is_loadable.false))
+    load_promise _ _ _ (simp (c.of-2.ensures, idle (goal.at.returns c).Else-is_live, said c.is_loadable.ensures c.if-is_loadable.false))

@@ -19,22 +19,19 @@ fits : (c : After-entry_ok) (f : Bool) → c.entry_ok.result ≡ f → let a = c
 unfolding entry_fits
 fits c f e =
     let fitting : length_fits c.args.self c.args.table.now ≡ true = said c.length_fits.ensures c.if-not-length_fits.false in
-    let d = c in
     simp (fitting)
-    (entry_tested _ _ _ _ _ _ d.entry_in-entry.ensures.0 d.entry_in-entry.ensures.1 (said c.entry_ok.ensures e))
+    (entry_tested _ _ _ _ _ _ c.entry_in-entry.ensures.0 c.entry_in-entry.ensures.1 (said c.entry_ok.ensures e))
 
 pub length_fits-requires : goal.length_fits-requires
 length_fits-requires c = c.requires.0
 
 pub returns-then-not-length_fits : goal.returns-then-not-length_fits
 unfolding looked_up entry_fits
-returns-then-not-length_fits c = let d = c in simp (c.of.ensures, said d.length_fits.ensures d.if-not-length_fits.true)
+returns-then-not-length_fits c = simp (c.of.ensures, said c.length_fits.ensures c.if-not-length_fits.true)
 
 pub entry_in-entry-requires : goal.entry_in-entry-requires
 entry_in-entry-requires c =
-    let d = c in
-    let s = d in
-    entry_inside (sized_row (fits_sized _ _ s.requires.0 (fitting (goal.at.entry_in-entry-requires d).Else-not-length_fits)) (live_facts _ s.requires.0).place) s.requires.1
+    entry_inside (sized_row (fits_sized _ _ c.requires.0 (fitting (goal.at.entry_in-entry-requires c).Else-not-length_fits)) (live_facts _ c.requires.0).place) c.requires.1
 
 pub entry_ok-requires : goal.entry_ok-requires
 entry_ok-requires c = (lines_facts _ _ _ (live_facts _ c.requires.0).lines).outputs_most
@@ -45,9 +42,8 @@ moved-requires c = c.requires.0
 pub returns-then-entry_ok : goal.returns-then-entry_ok
 unfolding looked_up
 returns-then-entry_ok c =
-    let d = c in
-    let read = d.entry_in-entry.ensures in
-    simp (fits (goal.at.returns-then-entry_ok d).After-entry_ok true d.if-entry_ok.true, c.moved.ensures, read.0, read.1)
+    let read = c.entry_in-entry.ensures in
+    simp (fits (goal.at.returns-then-entry_ok c).After-entry_ok true c.if-entry_ok.true, c.moved.ensures, read.0, read.1)
 
 pub returns : goal.returns
 unfolding looked_up

@@ -7,11 +7,9 @@ use Rattle.board.proofs.Board.rewind.Goals as goal
 pub returns-then-is_live : goal.returns-then-is_live
 unfolding rewind_on
 returns-then-is_live c =
-    let d = c in
-    rewind_promise _ _ (simp (c.of.ensures, said d.is_live.ensures d.if-is_live.true, c.run_at.ensures))
+    rewind_promise _ _ (simp (c.of.ensures, said c.is_live.ensures c.if-is_live.true, c.run_at.ensures))
 
 pub returns : goal.returns
 unfolding rewind_on
 returns c =
-    let d = c in
-    rewind_promise _ _ (simp (c.of-2.ensures, said d.is_live.ensures d.if-is_live.false))
+    rewind_promise _ _ (simp (c.of-2.ensures, said c.is_live.ensures c.if-is_live.false))

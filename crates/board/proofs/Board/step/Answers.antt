@@ -31,8 +31,7 @@ stranger c = search (cases, ← c.pow2.ensures)
 pub returns-then-not-is_live : goal.returns-then-not-is_live
 unfolding step_on
 returns-then-not-is_live c =
-    let d = c in
-    step_promise _ _ _ _ (simp (c.of.ensures, said d.is_live.ensures d.if-not-is_live.true))
+    step_promise _ _ _ _ (simp (c.of.ensures, said c.is_live.ensures c.if-not-is_live.true))
 
 pub returns-then-self-ge-STEP_LIMIT : goal.returns-then-self-ge-STEP_LIMIT
 unfolding step_on
@@ -46,8 +45,7 @@ pow2-requires c =
 pub returns-then-pow2-input : goal.returns-then-pow2-input
 unfolding step_on
 returns-then-pow2-input c =
-    let d = c in
-    step_promise _ _ _ _ (simp (c.of-then-pow2-input.ensures, alive (goal.at.returns-then-pow2-input d).Else-not-is_live, room (goal.at.returns-then-pow2-input d).Else-self-ge-STEP_LIMIT, stranger (goal.at.returns-then-pow2-input c).Then-pow2-input))
+    step_promise _ _ _ _ (simp (c.of-then-pow2-input.ensures, alive (goal.at.returns-then-pow2-input c).Else-not-is_live, room (goal.at.returns-then-pow2-input c).Else-self-ge-STEP_LIMIT, stranger (goal.at.returns-then-pow2-input c).Then-pow2-input))
 
 pub look_up-requires : goal.look_up-requires
 look_up-requires c = (alive (goal.at.look_up-requires c).Else-not-is_live, ltb-true _ _ (letter c))
@@ -55,5 +53,4 @@ look_up-requires c = (alive (goal.at.look_up-requires c).Else-not-is_live, ltb-t
 pub returns : goal.returns
 unfolding step_on
 returns c =
-    let d = c in
-    step_promise _ _ _ _ (simp (alive (goal.at.returns d).Else-not-is_live, room (goal.at.returns d).Else-self-ge-STEP_LIMIT, letter (goal.at.returns c).Else-pow2-input) c.look_up.ensures)
+    step_promise _ _ _ _ (simp (alive (goal.at.returns c).Else-not-is_live, room (goal.at.returns c).Else-self-ge-STEP_LIMIT, letter (goal.at.returns c).Else-pow2-input) c.look_up.ensures)

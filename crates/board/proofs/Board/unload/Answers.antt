@@ -7,11 +7,9 @@ use Rattle.board.proofs.Board.unload.Goals as goal
 pub returns-then-is_live : goal.returns-then-is_live
 unfolding unload_on
 returns-then-is_live c =
-    let d = c in
-    unload_promise _ _ (simp (c.of.ensures, said d.is_live.ensures d.if-is_live.true, c.empty.ensures.whole))
+    unload_promise _ _ (simp (c.of.ensures, said c.is_live.ensures c.if-is_live.true, c.empty.ensures.whole))
 
 pub returns : goal.returns
 unfolding unload_on
 returns c =
-    let d = c in
-    unload_promise _ _ (simp (c.of-2.ensures, said d.is_live.ensures d.if-is_live.false))
+    unload_promise _ _ (simp (c.of-2.ensures, said c.is_live.ensures c.if-is_live.false))
