@@ -9,7 +9,6 @@ use Rattle.records.specs.Meaning.Limits.{max_states}
 use Rattle.records.specs.Model.Lists.{put}
 use Rattle.records.specs.Laws.Tests.{by_test}
 use Rattle.records.specs.Laws.Lists.{length-put, put_ext, get_d_put-front, get_d_put_rest}
-use Rattle.averages.specs.Laws.Averages.{exactly}
 use Rattle.card.specs.Meaning.Card.{averages_in, lost_entry}
 use Rattle.card.specs.Model.Card.{averages_of, card_entry, card_entry_at, lost_entries, lost_card, card_of}
 use Rattle.card.specs.declared.Prospect.TheVariants.{Worth}
