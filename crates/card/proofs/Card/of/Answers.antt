@@ -10,9 +10,7 @@ unfolding lost_card
 loop-s-init c = (omega arith, ap (λ (k : Card). k.entries) c.lost-card.ensures ∙ sym (put_none _ _))
 
 pub entry_at-entry-requires : goal.entry_at-entry-requires
-entry_at-entry-requires c =
-    let d = c in
-    d.requires.summed d.loop-s.s d.loop-s-test.true
+entry_at-entry-requires c = c.requires.summed c.loop-s.s c.loop-s-test.true
 
 pub loop-s-preserved : goal.loop-s-preserved
 unfolding card_entry_at
@@ -21,6 +19,5 @@ loop-s-preserved c = (omega arith, put_next _ _ _ c.loop-s.invariant.1 c.entry_a
 pub returns : goal.returns
 unfolding card_of
 returns c =
-    let h = c in
-    let e : h.loop-s.s ≡ h.args.n = omega arith in
-    rw (h.loop-s.invariant.1, e)
+    let e : c.loop-s.s ≡ c.args.n = omega arith in
+    rw (c.loop-s.invariant.1, e)
