@@ -1,8 +1,8 @@
 -- Laws of the guard table's layout: where rows and entries lie, and what stands in the table of given entries.
 -- Assumes nothing.
-use Rattle.std.specs.Prelude.{◌≡◌, true, cond, eqb, ◌||◌, List, ◌∷◌, ◌++◌, ℕ, ◌+◌, ◌*◌, ◌^◌, ◌/◌, ◌%◌, ◌≤◌, ◌<◌}
+use Rattle.std.specs.Prelude.{◌≡◌, true, cond, eqb, ◌||◌, List, ◌++◌, ℕ, ◌+◌, ◌*◌, ◌^◌, ◌/◌, ◌%◌, ◌≤◌, ◌<◌}
 use Rattle.std.proofs.Math.Path.{refl, ap}
-use Rattle.std.proofs.Common.{sym, ap₂, ◌∙◌, mul-zero, pow_mono, get_or-append-add}
+use Rattle.std.proofs.Common.{ap₂, ◌∙◌, mul-zero, pow_mono, get_or-append-add}
 use Rattle.std.proofs.Math.Nat.{suc-mul, mul_comm, mul-le-mul, mul-le-mul_right, zero-mul, add-zero}
 use native.Mathlib.Omega.{arith}
 use Rattle.std.proofs.Math.ListN.{length, get_or, length-append}

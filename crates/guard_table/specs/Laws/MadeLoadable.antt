@@ -1,7 +1,6 @@
 -- The guard table of given entries is a table to load.
 -- Assumes nothing.
-use Rattle.std.specs.Prelude.{◌≡◌, refl, true, List, ℕ, ◌^◌, ◌≤◌, ◌<◌, leb}
-use Rattle.std.proofs.Common.{arith}
+use Rattle.std.specs.Prelude.{◌≡◌, refl, true, List, ℕ, ◌^◌, ◌≤◌, ◌<◌}
 use borrow.Author.Tests.{lt-ltb, le-leb, eq-eqb}
 use Rattle.records.specs.Laws.Tests.{and_both}
 use Rattle.records.specs.Laws.Bounded.{all_of}

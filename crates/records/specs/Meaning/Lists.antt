@@ -1,6 +1,6 @@
 -- Lists given by what stands at each index, and lists put together from blocks.
 -- Assumes nothing.
-use Rattle.std.specs.Prelude.{List, [], ◌∷◌, ◌++◌, ℕ, zero, suc, ◌+◌}
+use Rattle.std.specs.Prelude.{List, [], ◌∷◌, ◌++◌, ℕ, zero, suc}
 
 -- ---- a list by index
 

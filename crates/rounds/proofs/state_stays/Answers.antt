@@ -1,7 +1,7 @@
 -- `rounds::state_stays`: the inputs before i have a step to a state that was in; the cells before the one looked at have none at
 -- input i.
 -- Assumes nothing.
-use Rattle.std.proofs.Common.{arith, true, ◌*◌, ◌+◌, ◌<◌, ◌≤◌}
+use Rattle.std.proofs.Common.{arith, ◌*◌, ◌+◌, ◌<◌, ◌≤◌}
 use lib.ListN.{length}
 use Rattle.records.specs.Laws.Tests.{said}
 use Rattle.records.specs.Laws.Bounded.{all_none, all_more}
@@ -67,11 +67,11 @@ search-preserved c =
 pub inputs-preserved : goal.inputs-preserved
 inputs-preserved c =
     let t = c in (
-  omega arith,
-  all_more _ _ t.inputs.invariant.1
-      (search_found _ _ _ _ _ t.inputs-test.true t.search.invariant (omega (arith, t.if-end-at.false))
-      (said c.cell_leads.ensures c.if-cell_leads.true)),
-)
+      omega arith,
+      all_more _ _ t.inputs.invariant.1
+          (search_found _ _ _ _ _ t.inputs-test.true t.search.invariant (omega (arith, t.if-end-at.false))
+          (said c.cell_leads.ensures c.if-cell_leads.true)),
+    )
 
 pub returns : goal.returns
 returns c =

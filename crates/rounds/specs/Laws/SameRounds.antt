@@ -5,7 +5,6 @@ use Rattle.std.proofs.Math.Path.{sym}
 use Rattle.std.proofs.Common.{ap, ◌∙◌, arith}
 use mathlib.Core.List.{List}
 use Prim.Native.Nat.{ℕ, zero, suc, ◌*◌, ◌≤◌, ◌<◌}
-use Rattle.std.proofs.lemmas.Bool.{eqb-false}
 use Rattle.records.specs.Laws.Tests.{by_test}
 use Rattle.records.specs.Laws.Bounded.{all_cong, any_cong, sum_cong, count_cong}
 use Rattle.records.specs.Laws.Lists.{get_d_put-front}

@@ -12,7 +12,7 @@ use Rattle.std.proofs.Math.Decide.{dec_lt}
 use native.Mathlib.Omega.{arith}
 use Rattle.std.proofs.Math.Dec.{eqb}
 use Rattle.std.proofs.Math.ListN.{get_or}
-use borrow.Author.Tests.{eqb-false, ne_eqb}
+use borrow.Author.Tests.{ne_eqb}
 use Rattle.records.specs.Laws.Tests.{by_test, and_left, and_right}
 use Rattle.records.specs.Laws.Bounded.{all_cong, any_cong, count_le, count_mono, count_tight}
 use Rattle.records.specs.Laws.Lists.{put_ext, put_self, length-put, get_d_put-front, get_d_put_rest}

@@ -1,8 +1,7 @@
 -- `guard_table::loadable::entries_ok`: the entries before an input pass. Assumes nothing.
-use Rattle.std.proofs.Common.{arith, sym, true}
+use Rattle.std.proofs.Common.{arith, sym}
 use borrow.Author.Count.{below_more}
 use Rattle.records.specs.Laws.Tests.{said}
-use Rattle.guard_table.specs.Model.Entries.{entry_passes}
 use Rattle.guard_table.proofs.Entries.{entry_fails, entries_pass}
 use Rattle.guard_table.proofs.loadable.entries_ok.Goals as goal
 

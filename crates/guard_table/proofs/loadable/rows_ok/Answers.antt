@@ -1,8 +1,8 @@
 -- `guard_table::loadable::rows_ok`: the rows passed are in order. Assumes nothing.
-use Rattle.std.proofs.Common.{arith, sym, true, ◌≡◌}
+use Rattle.std.proofs.Common.{arith, sym, ◌≡◌}
 use Rattle.records.specs.Laws.Tests.{said}
 use Rattle.records.specs.Laws.Bounded.{all_none, all_more, all_fails}
-use Rattle.guard_table.specs.Meaning.Loadable.{row_ok, rows_ok}
+use Rattle.guard_table.specs.Meaning.Loadable.{rows_ok}
 use Rattle.guard_table.proofs.loadable.rows_ok.Goals as goal
 
 pub loop-place-init : goal.loop-place-init

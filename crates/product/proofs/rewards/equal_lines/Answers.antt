@@ -3,7 +3,6 @@ use Rattle.std.proofs.Common.{arith, sym, ◌∙◌, ◌≡◌}
 use Rattle.records.specs.Laws.Tests.{said}
 use Rattle.records.specs.Laws.Bounded.{count_none, count_more}
 use Rattle.sheet.specs.Model.Where.{decoded}
-use Rattle.product.specs.Model.Stages.{same_line}
 use Rattle.product.specs.Laws.Rewards.{lines-count}
 use Rattle.product.proofs.rewards.equal_lines.Goals.{else-same_line, then-same_line}
 use Rattle.product.proofs.rewards.equal_lines.Goals as goal

@@ -2,7 +2,6 @@
 -- Assumes nothing.
 use Rattle.std.proofs.Common.{◌-◌}
 use lib.ListN.{length}
-use Rattle.records.specs.declared.cursor.Found.TheVariants as found
 use Rattle.sheet.proofs.Walk.{Walked}
 use Rattle.sheet.proofs.reader.read_records.Given as goal
 

@@ -1,10 +1,10 @@
 -- `sheet_fields::head::literals_ok`: a search with an early return. The invariant: the literals before j are in order.
 -- Assumes nothing.
-use Rattle.std.proofs.Common.{arith, sym, true}
+use Rattle.std.proofs.Common.{arith, sym}
 use borrow.Author.Count.{below_none, below_more}
 use Rattle.records.specs.Laws.Tests.{said}
 use Rattle.records.specs.Laws.Bounded.{all_of, all_fails}
-use Rattle.sheet_fields.specs.Meaning.Head.{literal_ok, literals_ok}
+use Rattle.sheet_fields.specs.Meaning.Head.{literals_ok}
 use Rattle.sheet_fields.proofs.head.literals_ok.Goals as goal
 
 pub loop-j-init : goal.loop-j-init
