@@ -1,6 +1,6 @@
 -- What showing how a break is forced promises: refusals by their numbers in their order, and what the bytes say of each product state.
 -- Assumes nothing.
-use Rattle.std.specs.Prelude.{◌≡◌, ◌↔◌, true, List, [], ◌++◌, ℕ, ◌*◌, ◌^◌, ◌≤◌, ◌<◌, length, get_or, take, drop}
+use Rattle.std.specs.Prelude.{◌≡◌, ◌↔◌, true, List, [], ◌++◌, ℕ, ◌^◌, ◌≤◌, ◌<◌, length, get_or, take, drop}
 use Rattle.records.specs.Meaning.Limits.{max_states, max_outs}
 use Rattle.records.specs.Meaning.Work.{Slice, long_enough, asked_bytes}
 use Rattle.sheet.specs.Meaning.Decoded.{Decoded}
