@@ -176,7 +176,7 @@ module _ {s before lent : List ℕ} {made : Made} {after : List ℕ} (m : MakesG
     told =
         record {
           no_sheet = λ none.
-              says (sheet_number s) ((m.makes.bad_sheet enough).1 none).0 (m.makes.ground enough none);
+              says (sheet_number s) ((m.makes.bad_sheet enough).1 none).0 (m.makes.cause enough none);
           too_many = λ d x many. let e = (m.makes.too_many enough d x).1 many in says 7 (omega (arith, e)) e;
           unrealizable = λ d x few lost. let e = (m.makes.unrealizable enough d x few).1 lost in says 8 (omega (arith, e)) e;
           listed = λ d a.

@@ -136,12 +136,12 @@ impl Reading {
         }
     }
 
-    pub fn refused(ground: Refusal) -> Reading
-        ensures { result ≡ refused ground }
+    pub fn refused(cause: Refusal) -> Reading
+        ensures { result ≡ refused cause }
     {
         Reading {
             sheet: Sheet::blank(),
-            verdict: Verdict::Refused(ground),
+            verdict: Verdict::Refused(cause),
         }
     }
 }

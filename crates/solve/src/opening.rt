@@ -21,11 +21,11 @@ pub struct Solving {
 }
 
 impl Solving {
-    fn refused(ground: Refusal, sheet: Sheet) -> Solving
-        ensures { result ≡ unsolved_by ground sheet }
+    fn refused(cause: Refusal, sheet: Sheet) -> Solving
+        ensures { result ≡ unsolved_by cause sheet }
     {
         Solving {
-            verdict: Verdict::Refused(ground),
+            verdict: Verdict::Refused(cause),
             sheet,
             states: 0,
             kept: 0,
@@ -82,11 +82,11 @@ pub struct Opening {
 }
 
 impl Opening {
-    fn refused(ground: Refusal, sheet: Sheet) -> Opening
-        ensures { result ≡ refused_by ground sheet }
+    fn refused(cause: Refusal, sheet: Sheet) -> Opening
+        ensures { result ≡ refused_by cause sheet }
     {
         Opening {
-            verdict: Verdict::Refused(ground),
+            verdict: Verdict::Refused(cause),
             sheet,
             states: 0,
             kept: 0,

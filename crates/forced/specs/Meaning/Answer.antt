@@ -9,16 +9,16 @@ use Rattle.forced.specs.declared.answer.Forced.TheVariants.{Play, Refused}
 
 abbrev pub stop_number : Ground → ℕ
 stop_number Realizable = 23
-stop_number (Sheet ground) = ground_number ground
+stop_number (Sheet cause) = ground_number cause
 
 abbrev pub play_number : Forced → ℕ
 play_number (Play size states) = 0
-play_number (Refused ground) = stop_number ground
+play_number (Refused cause) = stop_number cause
 
 abbrev pub play_length : Forced → ℕ
 play_length (Play size states) = size
-play_length (Refused ground) = 0
+play_length (Refused cause) = 0
 
 abbrev pub play_states : Forced → ℕ
 play_states (Play size states) = states
-play_states (Refused ground) = 0
+play_states (Refused cause) = 0

@@ -61,8 +61,8 @@ writes_fits {words = words} {before} w e h = w.number_is ∙ rw (e, le-ltb (leng
 
 -- what was made is told by the call for its case
 module _ (made : Made) (result : List ℕ) {before : List ℕ} where
-  pub outcome_refused : {ground : Refusal} → made ≡ Refused ground → {r : Listed} {number : ℕ} {after : List ℕ}
-      → number ≡ ground_number ground
+  pub outcome_refused : {cause : Refusal} → made ≡ Refused cause → {r : Listed} {number : ℕ} {after : List ℕ}
+      → number ≡ ground_number cause
       → Writes true (refused_text number) before r after → Writes (outcome_due made result) (outcome_text made result) before r after
   unfolding outcome_due outcome_text
   outcome_refused e f w = rw (e, ← f) w
@@ -167,9 +167,9 @@ pub outcome_most : (made : Made) (result : List ℕ) → outcome_due made result
 unfolding outcome_due outcome_text
 outcome_most (Table size states) result e = listing_most (take size result)
     (and_right (leb size (length result)) (loadable (take size result)) e)
-outcome_most (Refused ground) result e =
-    let number = ground_number ground in
-    omega (arith, length-refused number, three_most number (omega (arith, ground_most ground)))
+outcome_most (Refused cause) result e =
+    let number = ground_number cause in
+    omega (arith, length-refused number, three_most number (omega (arith, ground_most cause)))
 
 -- ---- the listing of a made table is that of its entries
 

@@ -46,8 +46,8 @@ text_length = 41 + 101 * max_states
 -- a listing is due of a table to load, a line of every refusal
 unfoldable pub outcome_due : Made → List ℕ → Bool
 outcome_due (Table size states) result = leb size (length result) && loadable (take size result)
-outcome_due (Refused ground) result = true
+outcome_due (Refused cause) result = true
 
 unfoldable pub outcome_text : Made → List ℕ → List ℕ
 outcome_text (Table size states) result = listing_of (take size result)
-outcome_text (Refused ground) result = refused_text (ground_number ground)
+outcome_text (Refused cause) result = refused_text (ground_number cause)

@@ -11,7 +11,7 @@ use Rattle.sheet_fields.specs.Meaning.Monitor.{monitor_ok}
 
 -- the ground's number where its test is not passed, else what is due after it
 abbrev pub unless : Bool → ℕ → ℕ → ℕ
-unless passed ground later = cond passed later ground
+unless passed cause later = cond passed later cause
 
 -- the number, or what is due after it
 abbrev pub first_number : ℕ → ℕ → ℕ

@@ -14,7 +14,7 @@ use Rattle.sheet.specs.Model.Reader.{reading}
 use Rattle.sheet.specs.Meaning.Refusals.{sheet_number}
 use Rattle.sheet.specs.Promises.Reader.{Reads}
 use Rattle.sheet.specs.declared.layout.Refusal.{Refusal}
-use Rattle.sheet.specs.declared.layout.Refusal.TheVariants as ground
+use Rattle.sheet.specs.declared.layout.Refusal.TheVariants as cause
 use Rattle.product.specs.Meaning.Step.{first_tuple}
 use Rattle.product.specs.Model.ProductNumbering.{state_count}
 use Rattle.rounds.specs.Model.TableRounds.{is_in}
@@ -37,7 +37,7 @@ module _
     (fits : state_count d ≤ max_states) (kept : is_in (dropped_of d) 0 ≡ true)
   where
     -- the result is too short
-    pub judges_short : length before < length (table d) → Judges table stateCounts d before (Refused ground.ShortResult) before
+    pub judges_short : length before < length (table d) → Judges table stateCounts d before (Refused cause.ShortResult) before
     judges_short h =
         record {
           number = sym (table_due d _ _ ∙ due_short d _ _ _ fits (lost_none d kept) h);
@@ -95,7 +95,7 @@ makes table stateCounts {work} {s} {before} {r} {after} answers reads only =
       in_bounds = order.in_bounds;
       short_work = order.short_work;
       bad_sheet = order.bad_sheet;
-      ground = order.ground;
+      cause = order.cause;
       too_many = order.too_many;
       unrealizable = order.stopped;
       short_result = λ w d a. order.short_result w d a.sheet a.few a.realizable;

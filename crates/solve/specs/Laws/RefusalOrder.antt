@@ -132,7 +132,7 @@ module _
                   (λ f c l z. omega (arith, e.0, e.1, q)) (λ f c l z. omega (arith, e.0, e.1, q)),
               λ none. let x = bad w none in (some (sheet_number s) x.1 x.0, omega (arith, x.0, number_most s)),
             );
-            ground = λ w none. (bad w none).0;
+            cause = λ w none. (bad w none).0;
             too_many = λ w d x. let q = judged w d x in (
               λ e. cases d (λ h y. (too_many_iff d).1 h) (λ f c y. absurd (omega (arith, place.above, q)))
                   (λ f c l y. absurd (omega (arith, q))) (λ f c l y. absurd (omega (arith, q))),

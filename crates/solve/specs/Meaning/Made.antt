@@ -9,12 +9,12 @@ use Rattle.solve.specs.declared.made.Made.TheVariants.{Table, Refused}
 
 abbrev pub made_number : Made → ℕ
 made_number (Table size states) = 0
-made_number (Refused ground) = ground_number ground
+made_number (Refused cause) = ground_number cause
 
 abbrev pub made_length : Made → ℕ
 made_length (Table size states) = size
-made_length (Refused ground) = 0
+made_length (Refused cause) = 0
 
 abbrev pub made_states : Made → ℕ
 made_states (Table size states) = states
-made_states (Refused ground) = 0
+made_states (Refused cause) = 0

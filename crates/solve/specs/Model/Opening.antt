@@ -31,13 +31,13 @@ pub record Opened (ok : Bool) (s : List ℕ) (sheet : Sheet) (n kept : ℕ) (tup
 
 -- the refusal is the answer, whatever the table and the result memory
 abbrev pub Refuses : Bool → List ℕ → Refusal → Type 0
-Refuses ok s ground =
+Refuses ok s cause =
     (table : Decoded → List ℕ) (stateCounts : Decoded → ℕ) (before : List ℕ)
-    → Answers table stateCounts ok s before (made.Refused ground) before
+    → Answers table stateCounts ok s before (made.Refused cause) before
 
 -- `ok` says that the work memory is long enough
 abbrev pub Opens : Bool → List ℕ → Verdict → Sheet → ℕ → ℕ → List ℕ → List ℕ → List ℕ → Type 0
-Opens ok s (Refused ground) sheet n kept tuples cells dropped = Refuses ok s ground
+Opens ok s (Refused cause) sheet n kept tuples cells dropped = Refuses ok s cause
 Opens ok s Accepted sheet n kept tuples cells dropped = Opened ok s sheet n kept tuples cells dropped
 
 -- ---- the answer: document 01's number, 0 for none, and its figures, 0 on a refusal
@@ -53,4 +53,4 @@ pub record OpenAnswer (ok : Bool) (s : List ℕ) (verdict : Verdict) (states kep
 
 -- a refusal, with the sheet as it was read
 abbrev pub refused_by : Refusal → Sheet → Opening
-refused_by ground sheet = record { verdict = Refused ground; sheet = sheet; states = 0; kept = 0 }
+refused_by cause sheet = record { verdict = Refused cause; sheet = sheet; states = 0; kept = 0 }

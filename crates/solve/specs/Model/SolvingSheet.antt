@@ -31,7 +31,7 @@ pub record SolvedSheet (ok : Bool) (s : List ℕ) (sheet : Sheet) (n kept : ℕ)
 
 -- this, or a refusal
 abbrev pub SolvesSheet : Bool → List ℕ → Verdict → Sheet → ℕ → ℕ → Bool → List ℕ → List ℕ → List ℕ → Type 0
-SolvesSheet ok s (Refused ground) sheet n kept start tuples cells dropped = ground_number ground ≡ solving_number ok s
+SolvesSheet ok s (Refused cause) sheet n kept start tuples cells dropped = ground_number cause ≡ solving_number ok s
 SolvesSheet ok s Accepted sheet n kept start tuples cells dropped = SolvedSheet ok s sheet n kept start tuples cells dropped
 
 -- ---- the answer: document 01's number, 0 for none, and its figures, 0 and false on a refusal
@@ -44,4 +44,4 @@ pub record SolvingAnswer (ok : Bool) (s : List ℕ) (verdict : Verdict) (states 
 
 -- a refusal, with the sheet as it was read
 abbrev pub unsolved_by : Refusal → Sheet → Solving
-unsolved_by ground sheet = record { verdict = Refused ground; sheet = sheet; states = 0; kept = 0; start = false }
+unsolved_by cause sheet = record { verdict = Refused cause; sheet = sheet; states = 0; kept = 0; start = false }

@@ -32,7 +32,7 @@ pub record Makes (table : Decoded → List ℕ) (stateCounts : Decoded → ℕ) 
   pub short_work : (made_number r ≡ 10) ↔ (work ≡ false)
   -- where none is: one of 1 to 6 exactly if the bytes are no sheet's in bounds, and then the one that is due
   pub bad_sheet : work ≡ true → ((1 ≤ made_number r) × (made_number r ≤ 6)) ↔ (((d : Decoded) × IsSheet s d) → ⊥)
-  pub ground : work ≡ true → (((d : Decoded) × IsSheet s d) → ⊥) → made_number r ≡ sheet_number s
+  pub cause : work ≡ true → (((d : Decoded) × IsSheet s d) → ⊥) → made_number r ≡ sheet_number s
   -- where they are one's: 7 exactly if it has too many product states
   pub too_many : work ≡ true → (d : Decoded) → IsSheet s d → (made_number r ≡ 7) ↔ TooMany d
   -- where it has not: 8 exactly if it is unrealizable

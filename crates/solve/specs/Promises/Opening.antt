@@ -15,7 +15,7 @@ pub record OpensSheet (work : Bool) (s : List ℕ) (number : ℕ) : Type 0 where
   pub short_work : (number ≡ 10) ↔ (work ≡ false)
   -- where none is: one of 1 to 6 exactly if the bytes are no sheet's in bounds, and then the one that is due
   pub bad_sheet : work ≡ true → ((1 ≤ number) × (number ≤ 6)) ↔ (((d : Decoded) × IsSheet s d) → ⊥)
-  pub ground : work ≡ true → (((d : Decoded) × IsSheet s d) → ⊥) → number ≡ sheet_number s
+  pub cause : work ≡ true → (((d : Decoded) × IsSheet s d) → ⊥) → number ≡ sheet_number s
   -- where they are one's: 7 exactly if it has too many product states
   pub too_many : work ≡ true → (d : Decoded) → IsSheet s d → (number ≡ 7) ↔ TooMany d
   -- where it has not: 8 exactly if it is unrealizable
