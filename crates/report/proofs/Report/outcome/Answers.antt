@@ -1,0 +1,17 @@
+-- `report::Report::outcome`: by what was made. Assumes nothing.
+use Rattle.std.proofs.Common.{arith, sym}
+use lib.Seq.{length-take-le}
+use Rattle.report.specs.Laws.ListingAnswers.{outcome_refused, outcome_listed, outcome_no_table}
+use Rattle.report.proofs.Report.outcome.Goals as goal
+
+pub returns-then-res-length : goal.returns-then-res-length
+returns-then-res-length c = outcome_no_table _ _ c.in-Table.is (omega arith)
+
+pub slice_bounds-list-end : goal.slice_bounds-list-end
+slice_bounds-list-end c = sym (length-take-le _ _ (omega arith))
+
+pub returns-else-res-length : goal.returns-else-res-length
+returns-else-res-length c = outcome_listed _ _ c.in-Table.is (omega arith) c.list.ensures
+
+pub returns-in-Refused : goal.returns-in-Refused
+returns-in-Refused c = outcome_refused _ _ c.in-Refused.is c.number.ensures c.refused.ensures
