@@ -1,7 +1,7 @@
 -- What the forecast promises, for every sheet and work memory: refusals by document 01's numbers in its order, and what each entry of
 -- the card says of the product state with its number.
 -- Assumes nothing.
-use Rattle.std.specs.Prelude.{◌≡◌, ◌↔◌, List, [], ◌∷◌, ℕ, ◌*◌, ◌≤◌, ◌<◌, length, get_or}
+use Rattle.std.specs.Prelude.{◌≡◌, ◌↔◌, List, [], ◌∷◌, ℕ, ◌≤◌, ◌<◌, length, get_or}
 use Rattle.std.proofs.Math.Option.{none, some}
 use Rattle.records.specs.Meaning.Limits.{max_states, max_letters}
 use Rattle.records.specs.Meaning.Work.{Slice, pairs, eights, long_enough, asked_bytes}
