@@ -17,8 +17,7 @@ pub bounds-sheet-k : goal.bounds-sheet-k
 bounds-sheet-k c = omega (arith, same c.loop-k.invariant.1)
 
 pub loop-k-preserved : goal.loop-k-preserved
-loop-k-preserved c =
-    (
+loop-k-preserved c = (
   omega arith,
   subst (λ (j : ℕ). Elements c.args.sheet.now 0 (sheet_byte c.args.n c.args.m)
       (c.loop-k.k + 1) (set c.loop-k.sheet j c.sheet_byte.result))
