@@ -1,12 +1,14 @@
 // Reads a sheet on standard input, and prints the listing of its guard, or why there is none.
 #![tactic(auto)]
 
-ghost use Rattle.listing.specs.Promises.Printed.{PrintsRead, PrintsGuard};
+ghost use Rattle.std.specs.Prelude.{◌≡◌, ◌↔◌, ◌≤◌, ◌<◌, [], length, take, IfOk, IfSome, IsTrue, OnOk};
+ghost use Rattle.std.specs.Io.KnownBytes.{Consumes, IsAtEnd};
+ghost use Rattle.listing.specs.Promises.Printed.{PrintsRead, PrintsGuard, AppendsSheet};
 
 use guard::make::Guard;
 use guard_table::layout::Layout;
-use libc::{STDIN_FILENO, STDOUT_FILENO};
 use report::Report;
+use std::io::{self, Read, Write};
 
 // The bytes of a sheet that is not too long, and one more, up to which it is read.
 #[derive(Clone, Copy)]
@@ -18,15 +20,47 @@ impl Listing {
     pub const READ: usize = Listing::SHEET + 1;
 }
 
-fn main() {
+fn main(rt: HostRuntime) -> io::Result<()> {
+    print_input(&mut rt.stdin(), &mut rt.stdout())
+}
+
+// Reads a sheet and writes what is due for it. Where a read fails, nothing is written.
+fn print_input<R: Read, W: Write>(input: &mut R, output: &mut W) -> io::Result<()>
+    ensures { OnOk result (IfSome (R.remaining input.old)
+        (λ sheet. AppendsSheet sheet (W.contents output.old) (W.contents output.new))) }
+{
     let mut memory = [0u8; Listing::READ];
-    let mut next = [0u8; 1];
     let mut text = [0u8; Report::TEXT];
-    let size = io::read_full(STDIN_FILENO, &mut memory);
-    // 0 at the end of the input alone: neither where a read fails nor where there is more.
-    let more = libc::read(STDIN_FILENO, &mut next);
-    let length = print(&memory, size, more == 0, &mut text);
-    io::write_all(STDOUT_FILENO, &text[..length]);
+    let size = read_full(input, &mut memory)?;
+    let ended = is_at_end(input)?;
+    let length = print(&memory, size, ended, &mut text);
+    output.write_all(&text[..length])
+}
+
+// Reads until the memory is full or the input ends, and answers how many bytes it put at the start of the memory.
+fn read_full<R: Read>(input: &mut R, memory: &mut [u8]) -> io::Result<usize>
+    ensures inside { IfOk result (λ size. size ≤ length memory.new) }
+    ensures bytes { IfOk result (λ size. Consumes (R.remaining input.old) (R.remaining input.new) (take size memory.new)) }
+    ensures end { IfOk result (λ size. size < length memory.new → IsAtEnd (R.remaining input.new)) }
+{
+    let mut size = 0;
+    while size < memory.len() {
+        let read = input.read(&mut memory[size..])?;
+        if read == 0 {
+            break;
+        }
+        size += read;
+    }
+    Ok(size)
+}
+
+// Whether the input ends here, by one read more, of one byte: it gives none at the end alone.
+fn is_at_end<R: Read>(input: &mut R) -> io::Result<bool>
+    ensures { IfOk result (λ ended. IfSome (R.remaining input.old) (λ rest. IsTrue ended ↔ (rest ≡ []))) }
+{
+    let mut next = [0u8; 1];
+    let read = input.read(&mut next)?;
+    Ok(read == 0)
 }
 
 // What is printed for what was read, `size` bytes at the start of the memory; `ended` says that the end was seen behind them. Answers the

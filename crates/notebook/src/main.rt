@@ -9,44 +9,36 @@ ghost use Rattle.std.specs.Prelude.{◌≤◌};
 
 use makers::{counters_guard, counters_supervisor};
 use solve::made::Made;
+use std::io;
 
 // The answer of a maker: the states of its table, or the number of the refusal.
-fn print_made(made: Made) {
+fn print_made(rt: &impl Print, made: Made) -> io::Result<()> {
     match made {
-        Made::Table { length: _, states } => {
-            io::print_decimal(1, states as u64);
-            io::write_all(1, b" states\n");
-        }
-        Made::Refused(ground) => {
-            io::write_all(1, b"refused ");
-            io::print_decimal(1, ground.number() as u64);
-            io::write_all(1, b"\n");
-        }
+        Made::Table { length: _, states } => println!(rt; "{states} states"),
+        Made::Refused(ground) => println!(rt; "refused {}", ground.number()),
     }
 }
 
 // What begins a line: the two counters.
-fn print_counters(n: usize, m: usize) {
-    io::print_decimal(1, n as u64);
-    io::write_all(1, b" and ");
-    io::print_decimal(1, m as u64);
+fn print_counters(rt: &impl Print, n: usize, m: usize) -> io::Result<()> {
+    print!(rt; "{n} and {m}")
 }
 
 // A line for each maker.
-fn report(n: usize, m: usize)
+fn report(rt: &impl Print, n: usize, m: usize) -> io::Result<()>
     requires { (n ≤ 32) × (m ≤ 32) }
 {
-    print_counters(n, m);
-    io::write_all(1, b", supervisor: ");
-    print_made(counters_supervisor(n, m));
-    print_counters(n, m);
-    io::write_all(1, b", guard: ");
-    print_made(counters_guard(n, m));
+    print_counters(rt, n, m)?;
+    print!(rt; ", supervisor: ")?;
+    print_made(rt, counters_supervisor(n, m))?;
+    print_counters(rt, n, m)?;
+    print!(rt; ", guard: ")?;
+    print_made(rt, counters_guard(n, m))
 }
 
-fn main() {
-    report(32, 8);
-    report(32, 9);
-    report(32, 16);
-    report(32, 17);
+fn main(rt: HostRuntime) -> io::Result<()> {
+    report(&rt, 32, 8)?;
+    report(&rt, 32, 9)?;
+    report(&rt, 32, 16)?;
+    report(&rt, 32, 17)
 }

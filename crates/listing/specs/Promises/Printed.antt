@@ -1,7 +1,8 @@
 -- What the listing program prints for a sheet (document 01, 'Notebook sheets'), for all bytes on its standard input.
 -- Assumes nothing.
-use Rattle.std.specs.Prelude.{◌≡◌, Bool, true, cond, List, [], ◌⊎◌, ℕ, ◌≤◌, ◌<◌, ltb, leb, eqb, length, take}
+use Rattle.std.specs.Prelude.{◌≡◌, Bool, true, cond, List, [], ◌⊎◌, ℕ, ◌≤◌, ◌<◌, ltb, leb, eqb, length, take, Option}
 use Rattle.std.proofs.lemmas.List.Edits.{sets}
+use Rattle.std.specs.Io.KnownBytes.{Appends}
 use Rattle.sheet.specs.Meaning.Decoded.{Decoded}
 use Rattle.sheet.specs.Meaning.Refusals.{sheet_number, first_number}
 use Rattle.solve.specs.Meaning.Allowed.{TooMany, Unrealizable, IsSheet, Accepted}
@@ -71,3 +72,11 @@ read_text memory size ended = cond (ltb sheet_most size) too_long_text (cond end
 pub record PrintsRead (memory : List ℕ) (size : ℕ) (ended : Bool) (before : List ℕ) (r : ℕ) (after : List ℕ) : Type 0 where
   pub prints : Prints (read_text memory size ended) before r after
   pub whole : (w : List ℕ) → ReadInto w memory size ended → (ended ≡ true) ⊎ (size ≡ length memory) → PrintsSheet w before r after
+
+-- ---- of a whole run
+
+-- its output grew by what is due for an input of these bytes
+pub record AppendsSheet (s : List ℕ) (old new : Option (List ℕ)) : Type 0 where
+  pub appends : Appends old new (printed s)
+  pub too_long : sheet_most < length s → printed s ≡ too_long_text
+  pub tells : length s ≤ sheet_most → Tells s (printed s)
