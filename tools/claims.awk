@@ -178,8 +178,8 @@ function imports(file,    line, path, crate, layer, all, n) {
         path = substr(line, RSTART + 1, RLENGTH - 1)
         sub(/\./, "/", path)
         crate = line
-        sub(/^[^R]*Rattle·/, "", crate)
-        sub(/[^a-z_].*/, "", crate)
+        sub(/^[^R]*Rattle[.]/, "", crate)
+        sub(/[^a-z0-9_].*/, "", crate)
         all = all " crates/" crate "/specs/" path ".antt"
         n++
     }

@@ -15,21 +15,21 @@ FILENAME ~ /\.antt$/ {
     if (importing || /^ *((unfoldable|pub|abbrev) +)*use /) {
         importing = importing ? !/\}/ : /\{[^}]*$/
         # a name that an import gives to something else
-        while (match($0, / as [a-z][A-Za-z0-9-]*/)) {
+        while (match($0, / as [a-z][A-Za-z0-9_-]*/)) {
             defined[substr($0, RSTART + 4, RLENGTH - 4)]++
             $0 = substr($0, RSTART + RLENGTH)
         }
         next
     }
     # a clause that bounds the bytes of a list, in this form and no other
-    if (FILENAME ~ /\/Promises\// && /askedBytes/) {
-        if (/^ +pub [a-z-]+ : askedBytes [A-Za-z]+ ≤ workMost *$/) asked[crate] = asked[crate] " " $5
-        else wrong(FILENAME ": a clause about askedBytes that is not 'pub NAME : askedBytes LIST ≤ workMost':" $0)
+    if (FILENAME ~ /\/Promises\// && /asked_bytes/) {
+        if (/^ +pub [a-z_]+ : asked_bytes [a-z][A-Za-z0-9_]* ≤ work_most *$/) asked[crate] = asked[crate] " " $5
+        else wrong(FILENAME ": a clause about asked_bytes that is not 'pub NAME : asked_bytes LIST ≤ work_most':" $0)
     }
     # a list that is asked to be long enough
     text = FILENAME ~ /\/Promises\// ? $0 : ""
-    while (match(text, /longEnough [A-Za-z]+/)) {
-        held[crate, substr(text, RSTART + 11, RLENGTH - 11)]
+    while (match(text, /long_enough [a-z][A-Za-z0-9_]*/)) {
+        held[crate, substr(text, RSTART + 12, RLENGTH - 12)]
         text = substr(text, RSTART + RLENGTH)
     }
     # what a promise is made of, and whose it is
@@ -41,8 +41,8 @@ FILENAME ~ /\.antt$/ {
     n = split($0, word, /[^A-Za-z]+/)
     for (i = 1; i <= n; i++) if (word[i] ~ /^Makes[A-Z]/ && word[i] != top) parts[top] = parts[top] " " word[i]
 
-    if (/^ *[a-z][A-Za-z0-9-]*( [a-z][A-Za-z]*)* =( |$)/) defined[$1]++
-    if (/^[a-z][A-Za-z0-9-]*( [a-z][A-Za-z]*)* =( |$)/) {
+    if (/^ *[a-z][A-Za-z0-9_-]*( [a-z][A-Za-z0-9_]*)* =( |$)/) defined[$1]++
+    if (/^[a-z][A-Za-z0-9_-]*( [a-z][A-Za-z0-9_]*)* =( |$)/) {
         at = index($0, "=")
         name = $1
         parameters[name] = substr($0, length(name) + 1, at - length(name) - 1)
@@ -60,12 +60,12 @@ inside { head = head " " $0 }
 inside && /\{ ?$/ && !/^ ?(ensures|requires)/ { inside = 0; gsub(/ +/, " ", head); judge(head) }
 
 END {
-    for (c in asked) if (!((c, one(asked[c])) in held)) wrong(c " promises the bytes of" asked[c] ", which its promises do not ask for (longEnough LIST)")
+    for (c in asked) if (!((c, one(asked[c])) in held)) wrong(c " promises the bytes of" asked[c] ", which its promises do not ask for (long_enough LIST)")
     for (c in asked) if (!(c in makers)) wrong(c " promises the bytes of" asked[c] ", and no pub fn of it lists the lengths that it was lent")
     exit status
 }
 
-# A maker lists the lengths that it was lent: length (now (NAME .entry)) ∷ .. ∷ []
+# A maker lists the lengths that it was lent: length NAME.old ∷ .. ∷ []
 function judge(head,    fn, text, lent, n, i, list, widths, m, said, clause, promise, from) {
     fn = head
     sub(/^.*pub (.* )?fn /, "", fn)
@@ -73,7 +73,7 @@ function judge(head,    fn, text, lent, n, i, list, widths, m, said, clause, pro
     text = head
     gsub(/∷/, ":", text)
     n = 0
-    while (match(text, /length \(now \([a-z0-9_]+ \.entry\)\) ?:/)) {
+    while (match(text, /length [a-z0-9_]+\.old ?:/)) {
         list = substr(text, RSTART, RLENGTH)
         if (n && substr(text, 1, RSTART) ~ /ensures/) {
             wrong(crate "::" fn " lists lengths in more than one clause")
@@ -81,15 +81,15 @@ function judge(head,    fn, text, lent, n, i, list, widths, m, said, clause, pro
         }
         if (!n) promise = substr(text, 1, RSTART)
         text = substr(text, RSTART + RLENGTH)
-        sub(/^length \(now \(/, "", list)
-        sub(/ .*/, "", list)
+        sub(/^length /, "", list)
+        sub(/\..*/, "", list)
         lent[++n] = list
         listed[list] = crate " " fn
     }
     if (!n) return
     makers[crate]
     # what the clause says before the list, and after it: the promise, and the result's memory where there is one
-    sub(/.*⌜ ?/, "", promise)
+    sub(/.*ensures( [a-z0-9_]+)? \{ ?/, "", promise)
     sub(/[^A-Za-z].*/, "", promise)
     clause = text
     sub(/ensures.*/, "", clause)
@@ -110,7 +110,7 @@ function judge(head,    fn, text, lent, n, i, list, widths, m, said, clause, pro
     printf "%12s::%s  %s\n", crate, fn, said
     # every memory that may be written is in the list, or its contents afterwards are the promise's
     for (i in written)
-        if (listed[i] != crate " " fn && index(clause, "(now (" i " .exit))") == 0)
+        if (listed[i] != crate " " fn && (" " clause) !~ ("[^A-Za-z0-9_.]" i "\\.new([^A-Za-z0-9_]|$)"))
             wrong(crate "::" fn ": " i " is lent, and neither in the list of work memory nor the promise's result")
 }
 
@@ -122,7 +122,7 @@ function list_of(fn, promise,    from, whose) {
         whose = one(owner[whose])
     }
     if (!(whose in asked)) {
-        wrong(crate "::" fn " lists the lengths that it was lent, and no promise of it bounds their bytes (pub NAME : askedBytes LIST ≤ workMost)")
+        wrong(crate "::" fn " lists the lengths that it was lent, and no promise of it bounds their bytes (pub NAME : asked_bytes LIST ≤ work_most)")
         return ""
     }
     from = one(asked[whose])
