@@ -1,5 +1,5 @@
-//! Finds the archive that `rt staticlib hundlezoqa_c` writes: in the folder that GUARD_STATICLIB names, or
-//! in target/staticlib of the repository. Without it the crate builds too, with a warning, and its calls
+//! Finds the archive that `tools/library` writes: in the folder that GUARD_STATICLIB names, or in
+//! target/staticlib of the repository. Without it the crate builds too, with a warning, and its calls
 //! panic.
 
 use std::env;

@@ -26,7 +26,7 @@ fn main() {
     let quick = std::env::args().nth(1).is_some_and(|argument| argument == "quick");
     let effort = if quick { QUICK } else { FULL };
     if !guard::LINKED {
-        println!("built without the library (rt staticlib hundlezoqa_c): plain and tuned alone\n");
+        println!("built without the library (tools/library): plain and tuned alone\n");
     }
     let mut groups = rows::all();
     let mut growths = Growth::all();

@@ -30,7 +30,7 @@ fn expected(
 }
 
 #[test]
-#[cfg_attr(not(guard_library), ignore = "needs the library: rt staticlib hundlezoqa_c")]
+#[cfg_attr(not(guard_library), ignore = "needs the library: tools/library")]
 fn single_calls_agree() {
     let mut seen: BTreeMap<(&str, u32), u64> = BTreeMap::new();
     for case in 0..cases(100_000) {
@@ -138,7 +138,7 @@ fn empty_board(random: &mut Random, table: &[u8]) -> [u8; calls::BOARD_BYTES] {
 }
 
 #[test]
-#[cfg_attr(not(guard_library), ignore = "needs the library: rt staticlib hundlezoqa_c")]
+#[cfg_attr(not(guard_library), ignore = "needs the library: tools/library")]
 fn runs_follow_the_book() {
     let mut runs = 0;
     for case in 0..cases(4_000) {
@@ -198,7 +198,7 @@ fn runs_follow_the_book() {
 }
 
 #[test]
-#[cfg_attr(not(guard_library), ignore = "needs the library: rt staticlib hundlezoqa_c")]
+#[cfg_attr(not(guard_library), ignore = "needs the library: tools/library")]
 fn the_millionth_step_is_the_last() {
     let never_on_twice = [0, 0, 3, 0, 1, 1, 0, 0, 1, 0, 2, 2, 2];
     let sheet =

@@ -43,7 +43,7 @@ fn bounds(sheet: &[u8], record: usize) -> (usize, usize) {
 
 /// Every maker answers the fault's number, and none of 1 to 6 where there is none.
 #[test]
-#[cfg_attr(not(guard_library), ignore = "needs the library: rt staticlib hundlezoqa_c")]
+#[cfg_attr(not(guard_library), ignore = "needs the library: tools/library")]
 fn refusals_are_the_librarys() {
     let mut library = Library::new(None);
     let mut seen: BTreeMap<u32, u64> = BTreeMap::new();

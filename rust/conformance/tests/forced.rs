@@ -27,7 +27,7 @@ fn sheet_of(random: &mut Random) -> Vec<u8> {
 }
 
 #[test]
-#[cfg_attr(not(guard_library), ignore = "needs the library: rt staticlib hundlezoqa_c")]
+#[cfg_attr(not(guard_library), ignore = "needs the library: tools/library")]
 fn plays_agree() {
     let mut seen: BTreeMap<u32, u64> = BTreeMap::new();
     for case in 0..cases(20_000) {
@@ -46,7 +46,7 @@ fn plays_agree() {
 
 /// A slice that the play is not lent is no ground for 10, which comes before all others.
 #[test]
-#[cfg_attr(not(guard_library), ignore = "needs the library: rt staticlib hundlezoqa_c")]
+#[cfg_attr(not(guard_library), ignore = "needs the library: tools/library")]
 fn each_work_slice_has_its_own_bound() {
     let mut random = Random::new(seed(), 0);
     let (lost, sound) = (generate::longest_play(0, 1), generate::record(1, &[0, 1, 1, 0, 0, 0]));
@@ -69,7 +69,7 @@ fn each_work_slice_has_its_own_bound() {
 
 /// Every length of result memory, around a play's.
 #[test]
-#[cfg_attr(not(guard_library), ignore = "needs the library: rt staticlib hundlezoqa_c")]
+#[cfg_attr(not(guard_library), ignore = "needs the library: tools/library")]
 fn result_memory_of_every_length() {
     let mut random = Random::new(seed(), 0);
     for _ in 0..10 {
@@ -273,7 +273,7 @@ fn the_reference_s_plays_fit_its_product() {
 }
 
 #[test]
-#[cfg_attr(not(guard_library), ignore = "needs the library: rt staticlib hundlezoqa_c")]
+#[cfg_attr(not(guard_library), ignore = "needs the library: tools/library")]
 fn the_library_s_plays_fit_the_reference_s_product() {
     check_all(&mut Library::new(None));
 }
@@ -356,7 +356,7 @@ fn the_longest_play_of_the_reference() {
 }
 
 #[test]
-#[cfg_attr(not(guard_library), ignore = "needs the library: rt staticlib hundlezoqa_c")]
+#[cfg_attr(not(guard_library), ignore = "needs the library: tools/library")]
 fn the_longest_play_of_the_library() {
     check_longest(&mut Library::new(None));
 }

@@ -51,7 +51,7 @@ fn compare(sheet: &[u8], random: &mut Random) -> u32 {
 }
 
 #[test]
-#[cfg_attr(not(guard_library), ignore = "needs the library: rt staticlib hundlezoqa_c")]
+#[cfg_attr(not(guard_library), ignore = "needs the library: tools/library")]
 fn forecasts_agree() {
     let mut seen: BTreeMap<u32, u64> = BTreeMap::new();
     for case in 0..cases(20_000) {
@@ -69,7 +69,7 @@ fn forecasts_agree() {
 
 /// A slice that the forecast is not lent is no ground for 10, which comes before all others.
 #[test]
-#[cfg_attr(not(guard_library), ignore = "needs the library: rt staticlib hundlezoqa_c")]
+#[cfg_attr(not(guard_library), ignore = "needs the library: tools/library")]
 fn each_work_slice_has_its_own_bound() {
     let mut random = Random::new(seed(), 0);
     let sound = generate::record(1, &[0, 1, 1, 2, 0, 0]);
@@ -161,7 +161,7 @@ fn the_reference_s_cards_fit_its_tables() {
 }
 
 #[test]
-#[cfg_attr(not(guard_library), ignore = "needs the library: rt staticlib hundlezoqa_c")]
+#[cfg_attr(not(guard_library), ignore = "needs the library: tools/library")]
 fn the_library_s_cards_fit_its_tables() {
     check_all(&mut Library::new(None));
 }

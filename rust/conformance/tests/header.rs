@@ -192,7 +192,15 @@ fn one_blank(text: &str) -> String {
     text.split_whitespace().collect::<Vec<_>>().join(" ")
 }
 
-/// The functions of the library: symbol and parameters, as Rattle has them.
+/// A parameter by its name in C. `result` is a word of Rattle's clauses, so there its name is `res`.
+fn named_in_c(parameter: &str) -> String {
+    match parameter.strip_prefix("res: ") {
+        Some(kind) => format!("result: {kind}"),
+        None => parameter.to_string(),
+    }
+}
+
+/// The functions of the library: symbol and parameters, as Rattle has them but for that name.
 fn functions() -> Vec<(String, Vec<String>)> {
     let library = source("crates/hundlezoqa_c/src/lib.rt");
     let functions = library.split("pub extern \"C\" fn ").skip(1).map(|function| {
@@ -200,7 +208,7 @@ fn functions() -> Vec<(String, Vec<String>)> {
         let (parameters, rest) = rest.split_once(')').expect("and their end");
         assert!(rest.starts_with(" -> u32"), "{symbol} answers a number");
         let parameters = one_blank(parameters);
-        let parameters = parameters.trim_end_matches(',').split(", ").map(str::to_string);
+        let parameters = parameters.trim_end_matches(',').split(", ").map(named_in_c);
         (symbol.to_string(), parameters.collect())
     });
     functions.collect()

@@ -36,7 +36,7 @@ fn compare(table: &[u8], room: usize, random: &mut Random) -> u32 {
 }
 
 #[test]
-#[cfg_attr(not(guard_library), ignore = "needs the library: rt staticlib hundlezoqa_c")]
+#[cfg_attr(not(guard_library), ignore = "needs the library: tools/library")]
 fn stored_tables_are_taken_and_listed() {
     let mut taken = 0;
     for case in 0..cases(20_000) {
@@ -58,7 +58,7 @@ fn stored_tables_are_taken_and_listed() {
 }
 
 #[test]
-#[cfg_attr(not(guard_library), ignore = "needs the library: rt staticlib hundlezoqa_c")]
+#[cfg_attr(not(guard_library), ignore = "needs the library: tools/library")]
 fn made_guards_are_listed_as_the_program_prints_them() {
     let mut work = Work::new();
     for case in 0..cases(2_000) {
@@ -72,7 +72,7 @@ fn made_guards_are_listed_as_the_program_prints_them() {
 
 /// Any table in text memory of any length, often about the listing's.
 #[test]
-#[cfg_attr(not(guard_library), ignore = "needs the library: rt staticlib hundlezoqa_c")]
+#[cfg_attr(not(guard_library), ignore = "needs the library: tools/library")]
 fn listings_agree() {
     let mut seen = BTreeMap::new();
     for case in 0..cases(20_000) {
@@ -93,7 +93,7 @@ fn listings_agree() {
 
 /// Every length of text memory, around a listing's; of a table, and of the same one with a byte more.
 #[test]
-#[cfg_attr(not(guard_library), ignore = "needs the library: rt staticlib hundlezoqa_c")]
+#[cfg_attr(not(guard_library), ignore = "needs the library: tools/library")]
 fn text_memory_of_every_length() {
     let mut random = Random::new(seed(), 0);
     let mut tried = 0;

@@ -44,7 +44,7 @@ fn first_output(table: Result<Vec<u8>, reference::Refusal>) -> u8 {
 const SHEETS: usize = 2 * (2 * 3 + 8 * 15 + 48 * 255);
 
 #[test]
-#[cfg_attr(not(guard_library), ignore = "needs the library: rt staticlib hundlezoqa_c")]
+#[cfg_attr(not(guard_library), ignore = "needs the library: tools/library")]
 fn the_library_keeps_every_order() {
     let count = hold(|sheet| Guard::make(sheet, &mut Work::new()).expect("accepted").entry(0, 0).0);
     assert_eq!(count, SHEETS);

@@ -145,7 +145,7 @@ fn guards_of_the_reference_have_the_rows_of_their_states() {
 }
 
 #[test]
-#[cfg_attr(not(guard_library), ignore = "needs the library: rt staticlib hundlezoqa_c")]
+#[cfg_attr(not(guard_library), ignore = "needs the library: tools/library")]
 fn guards_of_the_library_have_the_rows_of_their_states() {
     check_bounds(&mut Library::new(None));
     check_makers(&mut Library::new(None));
@@ -281,7 +281,7 @@ fn boards_of_the_reference_take_rows_by_their_kind() {
 }
 
 #[test]
-#[cfg_attr(not(guard_library), ignore = "needs the library: rt staticlib hundlezoqa_c")]
+#[cfg_attr(not(guard_library), ignore = "needs the library: tools/library")]
 fn boards_of_the_library_take_rows_by_their_kind() {
     check_boards(&mut Library::new(None));
 }

@@ -13,7 +13,7 @@ const SHORT_WORK: u32 = reference::Refusal::ShortWork.number();
 const TABLES: [Kind; 2] = [Kind::Supervisor, Kind::Guard];
 
 #[test]
-#[cfg_attr(not(guard_library), ignore = "needs the library: rt staticlib hundlezoqa_c")]
+#[cfg_attr(not(guard_library), ignore = "needs the library: tools/library")]
 fn makers_agree() {
     let mut seen = BTreeMap::new();
     for case in 0..cases(20_000) {
@@ -32,7 +32,7 @@ fn makers_agree() {
 
 /// A slice that a maker is not lent, or one longer than its constant, is no ground for 10.
 #[test]
-#[cfg_attr(not(guard_library), ignore = "needs the library: rt staticlib hundlezoqa_c")]
+#[cfg_attr(not(guard_library), ignore = "needs the library: tools/library")]
 fn each_work_slice_has_its_own_bound() {
     let mut random = Random::new(seed(), 0);
     let sheet = generate::record(1, &[0, 1, 1, 0, 0, 0]);
@@ -50,7 +50,7 @@ fn each_work_slice_has_its_own_bound() {
 
 /// Every length of result memory, around a table's.
 #[test]
-#[cfg_attr(not(guard_library), ignore = "needs the library: rt staticlib hundlezoqa_c")]
+#[cfg_attr(not(guard_library), ignore = "needs the library: tools/library")]
 fn result_memory_of_every_length() {
     let mut random = Random::new(seed(), 0);
     let mut tried = 0;

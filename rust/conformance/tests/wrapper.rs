@@ -63,7 +63,7 @@ fn check_forecast(made: &Forecast, found: &[reference::Prospect]) {
 }
 
 #[test]
-#[cfg_attr(not(guard_library), ignore = "needs the library: rt staticlib hundlezoqa_c")]
+#[cfg_attr(not(guard_library), ignore = "needs the library: tools/library")]
 fn forecasts_are_read_as_they_are_meant() {
     let mut work = Work::new();
     for case in 0..cases(2_000) {
@@ -93,7 +93,7 @@ fn check_forced(made: &Forced, product: &Product, found: &[Option<reference::For
 }
 
 #[test]
-#[cfg_attr(not(guard_library), ignore = "needs the library: rt staticlib hundlezoqa_c")]
+#[cfg_attr(not(guard_library), ignore = "needs the library: tools/library")]
 fn plays_are_read_as_they_are_meant() {
     let mut work = Work::new();
     for case in 0..cases(2_000) {
@@ -112,7 +112,7 @@ fn plays_are_read_as_they_are_meant() {
 }
 
 #[test]
-#[cfg_attr(not(guard_library), ignore = "needs the library: rt staticlib hundlezoqa_c")]
+#[cfg_attr(not(guard_library), ignore = "needs the library: tools/library")]
 fn tables_are_read_as_they_are_meant() {
     let mut work = Work::new();
     let mut made = 0;
@@ -143,7 +143,7 @@ fn tables_are_read_as_they_are_meant() {
 
 /// Each call of a board in turn, with its fields.
 #[test]
-#[cfg_attr(not(guard_library), ignore = "needs the library: rt staticlib hundlezoqa_c")]
+#[cfg_attr(not(guard_library), ignore = "needs the library: tools/library")]
 fn a_board_runs() {
     let never_on_twice = [0, 0, 3, 0, 1, 1, 0, 0, 1, 0, 2, 2, 2];
     let sheet =

@@ -1,7 +1,7 @@
 //! A tray lock: one line in (a tray is there), one line out (open). Never open twice running; open
 //! when a tray is there, if that can be. Where it must be, two trays running beat the sheet.
 //!
-//! Run with `cargo run --offline --example tray`, after `rt staticlib hundlezoqa_c`.
+//! Run with `cargo run --offline --example tray`, after `tools/library`.
 
 use guard::sheet::Sheet;
 use guard::{Board, Forced, Forecast, Guard, Refusal, Supervisor, Work};

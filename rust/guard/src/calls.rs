@@ -40,7 +40,7 @@ macro_rules! library {
             #[cfg(not(guard_library))]
             #[allow(clippy::too_many_arguments)]
             unsafe fn $name($(_: $type),*) -> $answer {
-                panic!("built without the library: run `rt staticlib hundlezoqa_c` and build again")
+                panic!("built without the library: run `tools/library` and build again")
             }
         )*
     };

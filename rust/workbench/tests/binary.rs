@@ -24,7 +24,7 @@ fn run(words: &[&str]) -> Output {
 }
 
 #[test]
-#[cfg_attr(not(guard_library), ignore = "needs the library: rt staticlib hundlezoqa_c")]
+#[cfg_attr(not(guard_library), ignore = "needs the library: tools/library")]
 fn exit_statuses_are_as_documented() {
     let (a, p3) = (sheet("A.sheet"), sheet("P3.sheet"));
     let uses: [(&[&str], i32); 7] = [
@@ -47,7 +47,7 @@ fn exit_statuses_are_as_documented() {
 
 /// Each answer comes before the next call is asked for.
 #[test]
-#[cfg_attr(not(guard_library), ignore = "needs the library: rt staticlib hundlezoqa_c")]
+#[cfg_attr(not(guard_library), ignore = "needs the library: tools/library")]
 fn run_answers_at_once() {
     let mut child = program(&["run", &sheet("A.sheet")])
         .stdin(Stdio::piped())
@@ -72,7 +72,7 @@ fn run_answers_at_once() {
 
 /// Where nobody reads the answers the program ends in silence.
 #[test]
-#[cfg_attr(not(guard_library), ignore = "needs the library: rt staticlib hundlezoqa_c")]
+#[cfg_attr(not(guard_library), ignore = "needs the library: tools/library")]
 fn a_closed_pipe_is_no_panic() {
     let mut child = program(&["run", &sheet("A.sheet")])
         .stdin(Stdio::piped())
@@ -88,7 +88,7 @@ fn a_closed_pipe_is_no_panic() {
 
 /// A new file takes the old one's place at once; its permissions and a link to it stay.
 #[test]
-#[cfg_attr(not(guard_library), ignore = "needs the library: rt staticlib hundlezoqa_c")]
+#[cfg_attr(not(guard_library), ignore = "needs the library: tools/library")]
 fn files_are_replaced_in_one_step() {
     let folder = Folder::new("replaced");
     let (file, link) = (folder.file("it"), folder.file("link"));
@@ -112,7 +112,7 @@ fn files_are_replaced_in_one_step() {
 
 /// A name that is no text works as any other.
 #[test]
-#[cfg_attr(not(guard_library), ignore = "needs the library: rt staticlib hundlezoqa_c")]
+#[cfg_attr(not(guard_library), ignore = "needs the library: tools/library")]
 fn names_may_be_any_bytes() {
     let folder = Folder::new("names");
     let name = folder.0.join(OsStr::from_bytes(b"o\xE4.bytes"));
@@ -125,7 +125,7 @@ fn names_may_be_any_bytes() {
 
 /// An answer that could not be written is told, even where it was a refusal.
 #[test]
-#[cfg_attr(not(guard_library), ignore = "needs the library: rt staticlib hundlezoqa_c")]
+#[cfg_attr(not(guard_library), ignore = "needs the library: tools/library")]
 fn a_full_disk_is_told() {
     for name in ["A.sheet", "P3.sheet"] {
         let full = std::fs::OpenOptions::new().write(true).open("/dev/full").expect("there");
@@ -137,7 +137,7 @@ fn a_full_disk_is_told() {
 
 /// A line without an end takes no memory without an end.
 #[test]
-#[cfg_attr(not(guard_library), ignore = "needs the library: rt staticlib hundlezoqa_c")]
+#[cfg_attr(not(guard_library), ignore = "needs the library: tools/library")]
 fn a_line_has_a_bound() {
     let zero = std::fs::File::open("/dev/zero").expect("there");
     let done = program(&["run", &sheet("A.sheet")]).stdin(zero).output().expect("runs");
@@ -146,7 +146,7 @@ fn a_line_has_a_bound() {
 
 /// What is no file is written to, and stays what it is.
 #[test]
-#[cfg_attr(not(guard_library), ignore = "needs the library: rt staticlib hundlezoqa_c")]
+#[cfg_attr(not(guard_library), ignore = "needs the library: tools/library")]
 fn a_device_stays_a_device() {
     let done = run(&["compile", &sheet("A.sheet"), "-o", "/dev/null"]);
     assert_eq!(done.status.code(), Some(0));

@@ -51,7 +51,7 @@ fn expected(bytes: &[u8], work: &mut Work) -> (u32, String) {
 }
 
 #[test]
-#[cfg_attr(not(guard_library), ignore = "needs the library: rt staticlib hundlezoqa_c")]
+#[cfg_attr(not(guard_library), ignore = "needs the library: tools/library")]
 fn numbers_are_the_library_s_and_places_the_reference_s() {
     let mut work = Work::new();
     let mut seen: BTreeMap<u32, usize> = BTreeMap::new();
@@ -73,7 +73,7 @@ fn numbers_are_the_library_s_and_places_the_reference_s() {
 
 /// An empty file is the empty sheet, and so is a text of comments alone.
 #[test]
-#[cfg_attr(not(guard_library), ignore = "needs the library: rt staticlib hundlezoqa_c")]
+#[cfg_attr(not(guard_library), ignore = "needs the library: tools/library")]
 fn an_empty_file_is_the_empty_sheet() {
     for content in ["", "\n", "# nothing\n"] {
         let done = guard(&["check", "-"], content.as_bytes());

@@ -29,7 +29,7 @@ fn help_is_an_answer() {
 }
 
 #[test]
-#[cfg_attr(not(guard_library), ignore = "needs the library: rt staticlib hundlezoqa_c")]
+#[cfg_attr(not(guard_library), ignore = "needs the library: tools/library")]
 fn wrong_use_is_2() {
     let a = sheet("A.hex");
     let uses: [&[&str]; 16] = [
@@ -58,7 +58,7 @@ fn wrong_use_is_2() {
 }
 
 #[test]
-#[cfg_attr(not(guard_library), ignore = "needs the library: rt staticlib hundlezoqa_c")]
+#[cfg_attr(not(guard_library), ignore = "needs the library: tools/library")]
 fn a_file_that_cannot_be_read_or_written_is_3() {
     let folder = Folder::new("unreadable");
     let (a, missing) = (sheet("A.hex"), folder.file("missing/it"));
@@ -79,7 +79,7 @@ fn a_file_that_cannot_be_read_or_written_is_3() {
 
 /// A faulty sheet leaves the file that was there; a sound one replaces it, nothing is left beside it.
 #[test]
-#[cfg_attr(not(guard_library), ignore = "needs the library: rt staticlib hundlezoqa_c")]
+#[cfg_attr(not(guard_library), ignore = "needs the library: tools/library")]
 fn files_appear_whole_or_not_at_all() {
     let folder = Folder::new("whole");
     let out = folder.file("out");
@@ -112,7 +112,7 @@ fn files_appear_whole_or_not_at_all() {
 
 /// Stored tables are listed, drawn and run; a damaged one is refused 11, and no sheet's command takes one.
 #[test]
-#[cfg_attr(not(guard_library), ignore = "needs the library: rt staticlib hundlezoqa_c")]
+#[cfg_attr(not(guard_library), ignore = "needs the library: tools/library")]
 fn stored_tables_are_taken() {
     let folder = Folder::new("stored");
     let (a, table) = (sheet("A.hex"), folder.file("-A.table"));
@@ -132,7 +132,7 @@ fn stored_tables_are_taken() {
 
 /// A guard of more than 256 states has rows of kind 20: stored, it is listed, drawn and run as others are.
 #[test]
-#[cfg_attr(not(guard_library), ignore = "needs the library: rt staticlib hundlezoqa_c")]
+#[cfg_attr(not(guard_library), ignore = "needs the library: tools/library")]
 fn stored_tables_with_wide_rows_are_taken() {
     let folder = Folder::new("wide");
     let (counters, table) = (sheet("counters-32-9.sheet"), folder.file("wide.table"));
@@ -155,7 +155,7 @@ fn stored_tables_with_wide_rows_are_taken() {
 
 /// A refusal is `refused N` on standard output for a listing, and in words on standard error.
 #[test]
-#[cfg_attr(not(guard_library), ignore = "needs the library: rt staticlib hundlezoqa_c")]
+#[cfg_attr(not(guard_library), ignore = "needs the library: tools/library")]
 fn refusals_are_told_in_words() {
     for (name, number, words) in
         [("P3", 8, "unrealizable"), ("counters-32-17", 7, "512"), ("P10", 5, "seventh")]
@@ -177,7 +177,7 @@ fn refusals_are_told_in_words() {
 
 /// The sheets of the repository have the listings that stand beside them.
 #[test]
-#[cfg_attr(not(guard_library), ignore = "needs the library: rt staticlib hundlezoqa_c")]
+#[cfg_attr(not(guard_library), ignore = "needs the library: tools/library")]
 fn sheets_are_listed_as_stored() {
     let sheets = files(repository("sheets"), "sheet");
     assert!(sheets.len() >= 15, "too few text sheets");
@@ -192,7 +192,7 @@ fn sheets_are_listed_as_stored() {
 
 /// Names come from the text; a shield's copies and proposals are told apart.
 #[test]
-#[cfg_attr(not(guard_library), ignore = "needs the library: rt staticlib hundlezoqa_c")]
+#[cfg_attr(not(guard_library), ignore = "needs the library: tools/library")]
 fn supervisors_are_told_by_names() {
     let a = guard(&["supervisor", &sheet("A.sheet")], b"").text();
     assert!(
@@ -210,7 +210,7 @@ fn supervisors_are_told_by_names() {
 
 /// A file is taken for what is in it, and a byte order mark is no part of a text sheet.
 #[test]
-#[cfg_attr(not(guard_library), ignore = "needs the library: rt staticlib hundlezoqa_c")]
+#[cfg_attr(not(guard_library), ignore = "needs the library: tools/library")]
 fn files_are_taken_for_their_content() {
     let text = std::fs::read(sheet("A.sheet")).expect("there");
     let bytes = guard(&["compile", "-"], &text).out;

@@ -104,7 +104,7 @@ fn content(random: &mut Random, texts: &[Vec<u8>]) -> Vec<u8> {
 }
 
 #[test]
-#[cfg_attr(not(guard_library), ignore = "needs the library: rt staticlib hundlezoqa_c")]
+#[cfg_attr(not(guard_library), ignore = "needs the library: tools/library")]
 fn no_input_makes_a_command_panic() {
     let texts: Vec<Vec<u8>> = files(repository("sheets"), "sheet")
         .into_iter()
@@ -128,7 +128,7 @@ fn no_input_makes_a_command_panic() {
 
 /// Deep and long conditions, and long lines.
 #[test]
-#[cfg_attr(not(guard_library), ignore = "needs the library: rt staticlib hundlezoqa_c")]
+#[cfg_attr(not(guard_library), ignore = "needs the library: tools/library")]
 fn size_makes_nothing_overflow() {
     let head = "mode controller\nout a\nhorizon 0\nprefer a\nhard h\nstate s start accept\n";
     let long = "a & ".repeat(100_000) + "a";

@@ -47,7 +47,7 @@ fn taps(section: &str) -> Vec<(String, String, Option<String>)> {
 }
 
 #[test]
-#[cfg_attr(not(guard_library), ignore = "needs the library: rt staticlib hundlezoqa_c")]
+#[cfg_attr(not(guard_library), ignore = "needs the library: tools/library")]
 fn the_examples_are_as_told() {
     let document = std::fs::read_to_string(repository("docs/SHEETS.md")).expect("there");
     for (heading, name) in EXAMPLES {
@@ -81,7 +81,7 @@ fn the_examples_are_as_told() {
 
 /// Sheet A's card is told where its sheet is.
 #[test]
-#[cfg_attr(not(guard_library), ignore = "needs the library: rt staticlib hundlezoqa_c")]
+#[cfg_attr(not(guard_library), ignore = "needs the library: tools/library")]
 fn the_cards_are_as_told() {
     let told = [("docs/SHEETS.md", "### A tray lock"), ("README.md", "## How to write a sheet")];
     let card = guard(&["forecast", &sheet("A.sheet")], b"").text();
@@ -95,7 +95,7 @@ fn the_cards_are_as_told() {
 
 /// P3 is what is wrong: its check and its play.
 #[test]
-#[cfg_attr(not(guard_library), ignore = "needs the library: rt staticlib hundlezoqa_c")]
+#[cfg_attr(not(guard_library), ignore = "needs the library: tools/library")]
 fn the_plays_are_as_told() {
     let document = std::fs::read_to_string(repository("docs/SHEETS.md")).expect("there");
     let blocks = blocks(section(&document, "## When something is wrong"));
@@ -108,7 +108,7 @@ fn the_plays_are_as_told() {
 }
 
 #[test]
-#[cfg_attr(not(guard_library), ignore = "needs the library: rt staticlib hundlezoqa_c")]
+#[cfg_attr(not(guard_library), ignore = "needs the library: tools/library")]
 fn the_order_is_as_told() {
     let document = std::fs::read_to_string(repository("docs/SHEETS.md")).expect("there");
     let blocks = blocks(section(&document, "### What the guard chooses"));
@@ -118,7 +118,7 @@ fn the_order_is_as_told() {
 
 /// Two product states of P7, with their proposals.
 #[test]
-#[cfg_attr(not(guard_library), ignore = "needs the library: rt staticlib hundlezoqa_c")]
+#[cfg_attr(not(guard_library), ignore = "needs the library: tools/library")]
 fn the_proposals_are_as_told() {
     let document = std::fs::read_to_string(repository("docs/SHEETS.md")).expect("there");
     let blocks = blocks(section(&document, "### A shield that corrects only errors"));
@@ -129,7 +129,7 @@ fn the_proposals_are_as_told() {
 
 /// README's sheet is sheet A, with other comments.
 #[test]
-#[cfg_attr(not(guard_library), ignore = "needs the library: rt staticlib hundlezoqa_c")]
+#[cfg_attr(not(guard_library), ignore = "needs the library: tools/library")]
 fn the_readme_s_sheet_is_sheet_a() {
     let document = std::fs::read_to_string(repository("README.md")).expect("there");
     let blocks = blocks(section(&document, "## How to write a sheet"));

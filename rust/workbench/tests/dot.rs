@@ -138,7 +138,7 @@ fn guard_labels(sheet: &Sheet, product: &Product, table: &[u8]) -> Vec<String> {
 }
 
 #[test]
-#[cfg_attr(not(guard_library), ignore = "needs the library: rt staticlib hundlezoqa_c")]
+#[cfg_attr(not(guard_library), ignore = "needs the library: tools/library")]
 fn graphs_have_the_tables_edges() {
     let (mut shields, mut losing) = (0, 0);
     for case in 0..cases(150) {
@@ -183,7 +183,7 @@ fn elements<'a>(picture: &'a str, kind: &str) -> Vec<(&'a str, &'a str)> {
 /// README's picture of sheet A's guard is its graph: an arrow for each edge, with its label, and for
 /// each state its name.
 #[test]
-#[cfg_attr(not(guard_library), ignore = "needs the library: rt staticlib hundlezoqa_c")]
+#[cfg_attr(not(guard_library), ignore = "needs the library: tools/library")]
 fn the_picture_of_sheet_a_is_its_graph() {
     let graph = guard(&["dot", &common::sheet("A.sheet")], b"").text();
     let picture =

@@ -34,7 +34,7 @@ fn turn(play: &Play, state: usize) -> String {
 }
 
 #[test]
-#[cfg_attr(not(guard_library), ignore = "needs the library: rt staticlib hundlezoqa_c")]
+#[cfg_attr(not(guard_library), ignore = "needs the library: tools/library")]
 fn plays_are_told_whole() {
     let (mut shields, mut long, mut parts) = (0, 0, 0);
     for case in 0..cases(1_000) {
@@ -92,7 +92,7 @@ state 1: never_open_twice once, never_deviates agreed; proposal never_open_twice
 
 /// Names are the text's; an input has site and proposal.
 #[test]
-#[cfg_attr(not(guard_library), ignore = "needs the library: rt staticlib hundlezoqa_c")]
+#[cfg_attr(not(guard_library), ignore = "needs the library: tools/library")]
 fn a_shield_s_play_has_site_and_proposal() {
     let done = guard(&["forced", "-"], NEVER_DEVIATES.as_bytes());
     assert_eq!((done.text().as_str(), done.status), (OPENS_TWICE, 0));
@@ -144,7 +144,7 @@ const ARBITER_PLAY: [&str; 4 * 9] = [
 
 /// Three clients request; whichever is served, the other two do so again.
 #[test]
-#[cfg_attr(not(guard_library), ignore = "needs the library: rt staticlib hundlezoqa_c")]
+#[cfg_attr(not(guard_library), ignore = "needs the library: tools/library")]
 fn a_play_goes_on_after_each_answer() {
     let text = guard(&["forced", &sheet("arbiter_tight.sheet")], b"").text();
     let indented = |line: &&str| line.starts_with(' ');
@@ -153,7 +153,7 @@ fn a_play_goes_on_after_each_answer() {
 
 /// What can be kept is refused 23, in words on standard error; other refusals are the sheet's.
 #[test]
-#[cfg_attr(not(guard_library), ignore = "needs the library: rt staticlib hundlezoqa_c")]
+#[cfg_attr(not(guard_library), ignore = "needs the library: tools/library")]
 fn other_sheets_are_refused() {
     for (name, words) in [
         ("A.sheet", "refused 23: realizable: the start is kept"),
@@ -171,7 +171,7 @@ fn other_sheets_are_refused() {
 
 /// Names are told only of the play that they are of.
 #[test]
-#[cfg_attr(not(guard_library), ignore = "needs the library: rt staticlib hundlezoqa_c")]
+#[cfg_attr(not(guard_library), ignore = "needs the library: tools/library")]
 fn another_sheet_s_play_has_no_names() {
     let source = |name: &str| {
         let bytes = guard(&["compile", &sheet(name)], b"").out;

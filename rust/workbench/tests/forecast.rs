@@ -78,7 +78,7 @@ fn names_begin(row: &str) -> Option<usize> {
 }
 
 #[test]
-#[cfg_attr(not(guard_library), ignore = "needs the library: rt staticlib hundlezoqa_c")]
+#[cfg_attr(not(guard_library), ignore = "needs the library: tools/library")]
 fn forecasts_are_told_whole() {
     let (mut shields, mut losing, mut fractions) = (0, 0, 0);
     for case in 0..cases(1_000) {
@@ -105,7 +105,7 @@ fn forecasts_are_told_whole() {
 
 /// A shield with lost states, looking two steps ahead: names of the text, points below each other.
 #[test]
-#[cfg_attr(not(guard_library), ignore = "needs the library: rt staticlib hundlezoqa_c")]
+#[cfg_attr(not(guard_library), ignore = "needs the library: tools/library")]
 fn a_card_is_set_in_columns() {
     let text = std::fs::read_to_string(sheet("limit.sheet")).expect("there");
     let text = text.replace("horizon 0", "horizon 2").replace("match 1", "match 6");
@@ -125,7 +125,7 @@ state  best                          least                         never_open_tw
 
 /// At horizon 0 nothing is earned, and no bar is drawn.
 #[test]
-#[cfg_attr(not(guard_library), ignore = "needs the library: rt staticlib hundlezoqa_c")]
+#[cfg_attr(not(guard_library), ignore = "needs the library: tools/library")]
 fn nothing_is_earned_at_horizon_0() {
     let done = guard(&["forecast", &sheet("P6-0.sheet")], b"");
     let rows = done.text();

@@ -28,13 +28,13 @@ fn hold(folder: &str, status: u8) -> usize {
 }
 
 #[test]
-#[cfg_attr(not(guard_library), ignore = "needs the library: rt staticlib hundlezoqa_c")]
+#[cfg_attr(not(guard_library), ignore = "needs the library: tools/library")]
 fn errors_are_as_stored() {
     assert!(hold("faults", 1) >= 40, "too few faults");
 }
 
 #[test]
-#[cfg_attr(not(guard_library), ignore = "needs the library: rt staticlib hundlezoqa_c")]
+#[cfg_attr(not(guard_library), ignore = "needs the library: tools/library")]
 fn warnings_are_as_stored() {
     assert!(hold("warnings", 0) >= 1, "no warnings");
 }

@@ -24,7 +24,7 @@ fn expected(order: &[Literal]) -> String {
 }
 
 #[test]
-#[cfg_attr(not(guard_library), ignore = "needs the library: rt staticlib hundlezoqa_c")]
+#[cfg_attr(not(guard_library), ignore = "needs the library: tools/library")]
 fn every_order_is_told() {
     for lines in 1..=Sheet::LINES_OUT_MOST as u8 {
         for order in orders(lines) {
@@ -40,7 +40,7 @@ fn every_order_is_told() {
 
 /// The order is the head's alone: it is told of every sheet that none of 1 to 6 is due of, and of no other.
 #[test]
-#[cfg_attr(not(guard_library), ignore = "needs the library: rt staticlib hundlezoqa_c")]
+#[cfg_attr(not(guard_library), ignore = "needs the library: tools/library")]
 fn every_sheet_in_bounds_has_its_order() {
     let (mut told, mut refused) = ([0; 2], 0);
     for case in 0..cases(2_000) {

@@ -37,7 +37,7 @@ fn expected(sheet: &Sheet, product: &Product, seen: &mut [u64; 4]) -> String {
 }
 
 #[test]
-#[cfg_attr(not(guard_library), ignore = "needs the library: rt staticlib hundlezoqa_c")]
+#[cfg_attr(not(guard_library), ignore = "needs the library: tools/library")]
 fn every_proposal_of_a_shield_is_told() {
     let (mut controllers, mut seen) = (0, [0; 4]);
     for case in 0..cases(400) {
@@ -65,7 +65,7 @@ fn every_proposal_of_a_shield_is_told() {
 
 /// The notebook's P7: trusted again from the state where copy and monitor are apart.
 #[test]
-#[cfg_attr(not(guard_library), ignore = "needs the library: rt staticlib hundlezoqa_c")]
+#[cfg_attr(not(guard_library), ignore = "needs the library: tools/library")]
 fn a_proposal_that_has_recovered_is_told() {
     let done = guard(&["proposals", &sheet("P7.sheet")], b"");
     assert_eq!((done.status, done.err.as_str()), (0, ""));

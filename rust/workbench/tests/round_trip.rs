@@ -31,7 +31,7 @@ fn generated_sheets_come_back() {
 
 /// Through the commands, as a person does it, text by standard input.
 #[test]
-#[cfg_attr(not(guard_library), ignore = "needs the library: rt staticlib hundlezoqa_c")]
+#[cfg_attr(not(guard_library), ignore = "needs the library: tools/library")]
 fn show_and_compile_undo_each_other() {
     for case in 0..cases(200) {
         let mut random = Random::new(seed(), case);
@@ -46,7 +46,7 @@ fn show_and_compile_undo_each_other() {
 
 /// The repository's sheets: text and hexadecimal say the same bytes, and names stay.
 #[test]
-#[cfg_attr(not(guard_library), ignore = "needs the library: rt staticlib hundlezoqa_c")]
+#[cfg_attr(not(guard_library), ignore = "needs the library: tools/library")]
 fn the_sheets_say_the_same_both_ways() {
     let mut pairs = 0;
     for path in files(repository("sheets"), "sheet") {

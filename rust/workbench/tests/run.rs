@@ -85,7 +85,7 @@ fn pick_blank(random: &mut Random) -> &'static str {
 }
 
 #[test]
-#[cfg_attr(not(guard_library), ignore = "needs the library: rt staticlib hundlezoqa_c")]
+#[cfg_attr(not(guard_library), ignore = "needs the library: tools/library")]
 fn scripts_are_answered_as_the_reference_does() {
     let folder = Folder::new("run");
     let file = folder.file("it");
@@ -133,7 +133,7 @@ fn plain(line: &str) -> String {
 
 /// Lines that cannot be read are told with their number, and the run goes on.
 #[test]
-#[cfg_attr(not(guard_library), ignore = "needs the library: rt staticlib hundlezoqa_c")]
+#[cfg_attr(not(guard_library), ignore = "needs the library: tools/library")]
 fn unreadable_lines_are_told() {
     let folder = Folder::new("lines");
     let file = folder.file("A.hex");

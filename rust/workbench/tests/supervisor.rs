@@ -29,7 +29,7 @@ fn expected(sheet: &Sheet, product: &Product, kept: &Kept) -> String {
 }
 
 #[test]
-#[cfg_attr(not(guard_library), ignore = "needs the library: rt staticlib hundlezoqa_c")]
+#[cfg_attr(not(guard_library), ignore = "needs the library: tools/library")]
 fn supervisors_are_told_whole() {
     let (mut shields, mut losing) = (0, 0);
     for case in 0..cases(400) {
@@ -52,7 +52,7 @@ fn supervisors_are_told_whole() {
 
 /// Names are told only of the supervisor and the guard that they are of.
 #[test]
-#[cfg_attr(not(guard_library), ignore = "needs the library: rt staticlib hundlezoqa_c")]
+#[cfg_attr(not(guard_library), ignore = "needs the library: tools/library")]
 fn another_sheet_s_tables_have_no_names() {
     let source = |name: &str| {
         let bytes = guard(&["compile", &sheet(name)], b"").out;
