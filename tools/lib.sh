@@ -65,8 +65,11 @@ unlock() {
     unset GUARD_LOCK
 }
 
-# The sums of files, and of all below folders but what cargo builds.
-sums() { (cd "$root" && find "$@" -name target -prune -o -type f -exec cksum {} +) 2>/dev/null | LC_ALL=C sort; }
+# The sums of files, and of all below folders but what cargo and rt build.
+sums() {
+    (cd "$root" && find "$@" \( -name target -o -path 'crates/*/out' -type d \) -prune -o -type f -exec cksum {} +) 2>/dev/null |
+        LC_ALL=C sort
+}
 
 # fresh PRODUCT SOURCE..: whether product and sources are as they were when it was made. Sums tell, not times: a file copied with
 # its time, or one taken away, counts too.
@@ -80,71 +83,81 @@ update() {
     lock
     # another tool may have made it meanwhile
     fresh "$@" && return
-    made=$root/target/made/${1##*/}
+    sources=$root/target/made/${1##*/}.sources
     mkdir -p "$root/target/made" || return 2
-    (shift && sums "$@") >"$made.sources" || return 2
+    (shift && sums "$@") >"$sources" || return 2
     (cd "$root" && $command) </dev/null || return
-    { sums "$1" && cat "$made.sources"; } | LC_ALL=C sort >"$made.new" && mv "$made.new" "$made"
-    rm -f "$made.sources"
+    made "$1" "$sources"
+    rm -f "$sources"
+}
+
+# made PRODUCT FILE: notes that the product was made now, of the sources whose sums FILE has.
+made() {
+    note=$root/target/made/${1##*/}
+    mkdir -p "$root/target/made" && { sums "$1" && cat "$2"; } | LC_ALL=C sort >"$note.new" && mv "$note.new" "$note"
 }
 
 # The folder of the Rattle toolchain, as `kit`: as rt finds it, and where that is not so, as rt says, which takes longer.
 find_kit() {
     kit=$(command -v rt) || stop 2 "rt is not installed"
     kit=$(realpath "$kit")
-    kit=${RATTLE_HOME:-${kit%/*/*}}
+    kit=${kit%/*/*}
     [ -f "$kit/KIT-ID" ] || kit=$(rt doc) || stop 2 "rt doc failed"
-    [ -d "$kit" ] || kit=${kit%/*/*}
+    [ -d "$kit" ] || kit=${kit%/*}
     [ -f "$kit/KIT-ID" ] || stop 2 "$kit has no KIT-ID: it is no Rattle toolchain"
 }
 
-# How many crates of the repository NAME is made of; crates.txt has the lowest first.
+# What the proof of a product reads.
+proved_of() { printf '%s\n' crates crates.txt "$kit/KIT-ID"; }
+
+# The crates of the repository that NAME is made of, itself last; crates.txt has the lowest first.
 crates_of() {
     awk -F: -v name="$1" '
         { sub(/#.*/, "") }
-        NF { names[++n] = $1; below[$1] = $2 }
+        NF { split($1, word, " "); names[++n] = word[1]; below[word[1]] = $2 }
         END {
             needed[name]
             for (i = n; i; i--) if (names[i] in needed) {
-                count++
                 m = split(below[names[i]], crates, " ")
                 for (j = 1; j <= m; j++) needed[crates[j]]
             }
-            print count + 0
+            for (i = 1; i <= n; i++) if (names[i] in needed) print names[i]
         }' crates.txt
 }
 
-# prove WORD NAME: `rt WORD NAME`. Says each crate as it is proved, and all that rt said where it fails.
+# prove WORD NAME FILE PRODUCT: `rt WORD` in the crate's folder, then a copy of what it made there, out/FILE. Says each crate as it is
+# checked, and all that rt said where it fails.
 prove() (
-    grep -q "^$2:" crates.txt || stop 2 "crates.txt has no crate $2"
-    say "proving $2 and what it leans on: $(crates_of "$2") crates, some minutes where none is proved yet"
+    grep -qE "^$2( [^:]*)?:" crates.txt || stop 2 "crates.txt has no crate $2"
+    number=$(crates_of "$2" | wc -l)
+    say "proving $2 and what it leans on: $number crates, some minutes where none is proved yet"
     room=$(mktemp -d) || exit 2
     trap 'rm -rf "$room"' EXIT
     trap 'exit 2' HUP INT PIPE TERM
-    { rt "$1" "$2" 2>&1; echo $? >"$room/status"; } | while IFS= read -r line; do
+    rm -f "crates/$2/out/$3"
+    { (cd "crates/$2" && rt "$1") 2>&1; echo $? >"$room/status"; } | while IFS= read -r line; do
         printf '%s\n' "$line"
-        case $line in 'rt: '*' proved ('[0-9]*) say "${line#rt: }" ;; esac
+        case $line in 'crate '*': modules loaded='*) line=${line#crate } && say "${line%%:*} checked" ;; esac
     done >"$room/log"
-    status=$(cat "$room/status") && [ "$status" -eq 0 ] && exit
+    status=$(cat "$room/status")
+    if [ "${status:-1}" -eq 0 ] && [ -f "crates/$2/out/$3" ]; then
+        mkdir -p "${4%/*}" && cp "crates/$2/out/$3" "$4" && exit
+        stop 2 "$4 cannot be written"
+    fi
     cat "$room/log" >&2
-    stop 2 "rt $1 $2 ended with status ${status:-unknown}: $2 is not proved"
+    [ "${status:-1}" -ne 0 ] || stop 2 "rt $1 made no crates/$2/out/$3: crates.txt has $2 as something else"
+    stop 2 "rt $1 ended with status ${status:-unknown}: $2 is not proved"
 )
 
-# The listing program, proved: target/bin/listing.
+# The listing program, proved: target/bin/listing. (`rt run` runs it too, on no input.)
+lister=target/bin/listing
 make_listing() {
     find_kit
-    update 'prove check listing' target/bin/listing crates crates.txt "$kit/KIT-ID"
+    update "prove run listing listing $lister" "$lister" $(proved_of)
 }
 
-# The listing program on standard input, once it is made. It runs as `rt` runs it: with the kit's loader and C library, and on
-# another processor under the kit's emulator.
-run_listing() {
-    machine=$kit/on/$(uname -m)/toolchain
-    emulator=$machine/bin/qemu-x86_64
-    [ -x "$emulator" ] || emulator=
-    ${emulator:+"$emulator"} "$machine/lib/ld-linux-x86-64.so.2" --library-path "$machine/lib" "$root/target/bin/listing" ||
-        stop 2 "the listing program ended with status $?"
-}
+# The listing program on standard input, once it is made.
+run_listing() { "$root/$lister" || stop 2 "the listing program ended with status $?"; }
 
 # The bytes of what tools/hex.awk writes: lines of octal escapes, which printf knows in every shell.
 from_octal() { while IFS= read -r escapes; do printf "$escapes"; done; }
@@ -159,8 +172,24 @@ make_library() {
         return
     fi
     find_kit
-    update 'prove staticlib hundlezoqa_c' "$archive" crates crates.txt "$kit/KIT-ID"
+    update "prove lib hundlezoqa_c libhundlezoqa_c.a $archive" "$archive" $(proved_of)
 }
+
+# The same, over the libraries that `rt ci` leaves in a clone that had no crates/*/out before: `rt lib` would prove each of them once more.
+# The crate itself is proved again, and the archive is the one that `rt lib` makes.
+make_library_over_ci() (
+    grep -q '^hundlezoqa_c staticlib' crates.txt || stop 2 "crates.txt has hundlezoqa_c as no static library"
+    words=
+    for name in $(crates_of hundlezoqa_c); do
+        [ "$name" = hundlezoqa_c ] || words="$words -L dependency=../$name/out/rlib"
+    done
+    for name in $(sed -n 's/#.*//; s/^hundlezoqa_c[^:]*://p' crates.txt); do words="$words --extern $name=../$name/out/rlib/$name.rlib"; done
+    rm -f "$archive"
+    mkdir -p "${archive%/*}" && cd crates/hundlezoqa_c && "$kit/bin/rattle" build --crate-name hundlezoqa_c src/lib.rt \
+        --extern "std=$kit/rlibs/std.rlib" -L "dependency=$kit/rlibs" $words --antt-project "$kit/rattle/logic/antt-project.json" \
+        --logic-built "$kit/logic_built" --jobs 2 --links hundlezoqa_c= --crate-type staticlib --toolchain "$kit/toolchain" \
+        --backend llvm -o "$root/$archive"
+)
 
 # make_program PACKAGE PROGRAM: a program of rust/, built for release.
 make_program() { update "rebuild $1" "rust/target/release/$2" rust "$archive"; }
