@@ -2,3 +2,5 @@
 pub mod Stores
 pub mod Moving
 pub mod LaidOut
+pub mod Stages
+pub mod Recovering

@@ -1,10 +1,10 @@
 -- Laws of the answers, of how long a listing is, and of the listing of a made table.
 -- Assumes nothing.
-use Rattle.std.specs.Prelude.{◌≡◌, refl, Bool, true, false, ℕ, zero, suc, ◌*◌, ◌^◌, ◌≤◌, ◌<◌, leb, length, take}
+use Rattle.std.specs.Prelude.{◌≡◌, refl, Bool, true, ℕ, zero, suc, ◌*◌, ◌^◌, ◌≤◌, ◌<◌, leb, length, take}
 use Rattle.std.proofs.Math.Path.{ap}
 use Rattle.std.proofs.Common.{◌∙◌, suc-mul, zero-add, arith, length-append, pow_mono}
 use mathlib.Core.List.{List, ◌∷◌, ◌++◌}
-use borrow.Author.Tests.{lt-ltb, le-ltb, le-leb, lt-leb, ltb-true}
+use borrow.Author.Tests.{lt-ltb, le-ltb, le-leb, ltb-true}
 use Rattle.records.specs.Laws.Tests.{and_left, and_right}
 use Rattle.records.specs.Meaning.Lists.{cat}
 use Rattle.records.specs.Laws.Lists.{cat_ext}
@@ -27,7 +27,7 @@ use Rattle.solve.specs.declared.made.Made.{Made}
 use Rattle.solve.specs.declared.made.Made.TheVariants.{Table, Refused}
 use Rattle.report.specs.Promises.Report.{listed_number, text_number, text_length, Writes, outcome_due, outcome_text}
 use Rattle.report.specs.declared.Listed.{Listed}
-use Rattle.report.specs.declared.Listed.TheVariants.{Text, NoTable, ShortText}
+use Rattle.report.specs.declared.Listed.TheVariants.{Text, ShortText}
 
 -- ---- the answer
 
@@ -49,10 +49,6 @@ unfolding text_number
 writes_short {words = words} {before} e h =
     record { number_is = rw (e, lt-ltb (length before) (length words) h); size = refl; bytes = refl; inside = omega arith }
 
-pub writes_no_table : {due : Bool} {words before : List ℕ} → due ≡ false → Writes due words before NoTable before
-unfolding text_number
-writes_no_table e = record { number_is = rw e; size = refl; bytes = refl; inside = omega arith }
-
 -- a text that is due and fits is written
 pub writes_fits : {due : Bool} {words before : List ℕ} {r : Listed} {after : List ℕ} → Writes due words before r after → due ≡ true
     → length words ≤ length before → listed_number r ≡ 0
@@ -73,10 +69,6 @@ module _ (made : Made) (result : List ℕ) {before : List ℕ} where
         → Writes (outcome_due made result) (outcome_text made result) before r after
     unfolding outcome_due outcome_text
     outcome_listed h w = rw (e, le-leb size (length result) h) w
-
-    pub outcome_no_table : length result < size → Writes (outcome_due made result) (outcome_text made result) before NoTable before
-    unfolding outcome_due
-    outcome_no_table h = writes_no_table (rw (e, lt-leb size (length result) h))
 
 -- ---- how long a listing is
 

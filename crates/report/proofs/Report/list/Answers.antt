@@ -4,7 +4,8 @@ use lib.ListN.{length}
 use Rattle.records.specs.Laws.Tests.{said}
 use Rattle.guard_table.specs.Meaning.Loadable.{loadable}
 use Rattle.listing_text.specs.Meaning.Listing.{listing_of}
-use Rattle.report.specs.Laws.ListingAnswers.{writes_text, writes_short, writes_no_table, loadable_filled}
+use Rattle.report.specs.Laws.ListingAnswers.{writes_text, writes_short, loadable_filled}
+use Rattle.report.proofs.NoTable.{writes_no_table}
 use Rattle.report.proofs.Report.list.Goals.{Else-not-is_loadable, Else-text-listing_length}
 use Rattle.report.proofs.Report.list.Goals as goal
 

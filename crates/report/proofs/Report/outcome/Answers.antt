@@ -1,7 +1,8 @@
 -- `report::Report::outcome`: by what was made. Assumes nothing.
 use Rattle.std.proofs.Common.{arith, sym}
 use lib.Seq.{length-take-le}
-use Rattle.report.specs.Laws.ListingAnswers.{outcome_refused, outcome_listed, outcome_no_table}
+use Rattle.report.specs.Laws.ListingAnswers.{outcome_refused, outcome_listed}
+use Rattle.report.proofs.NoTable.{outcome_no_table}
 use Rattle.report.proofs.Report.outcome.Goals as goal
 
 pub returns-then-res-length : goal.returns-then-res-length

@@ -1,0 +1,2 @@
+-- Laws that an edit of a number breaks.
+pub mod NoTable
