@@ -78,14 +78,14 @@ module _
         let some = (counts_low fits p ins outs is-inputs is-outputs).0 in
         record {
           few = most;
-          rounds-held = omega (arith, most);
+          rounds_held = omega (arith, most);
           bests_held = rw (best_row, length-put) (omega (arith, most));
           leasts_held = rw (least-row, length-put) (omega (arith, most));
           summed = λ k h. record {
             best_most = rw (row_at_lem top bests₀ best_row bests-room k h) (omega (arith, best_bound sized sheet.horizon far.0 far.1 k h));
             least_most =
                 rw (row_at_lem bottom leasts₀ least-row leasts-room k h) (omega (arith, least_bound sized sheet.horizon far.0 far.1 k h));
-            words-least = rw counted (one-le-pow sheet.horizon ins some);
+            words_least = rw counted (one-le-pow sheet.horizon ins some);
             words_most = rw counted (omega (arith, far.1));
           };
         }

@@ -49,8 +49,8 @@ forecast_promise {s} {r} lent bytes answers =
       only = λ d a card size x.
           only_card d (accepted_layout a) x (foretells d a.sheet.in_bounds (accepted_layout a)) size (card_size d);
       refused = λ bad. subst Unforetold (sym (answers.card_is ∙ rw (ne_eqb _ 0 bad))) lost_card_lem;
-      best_sums_lem = λ d a. best_sums_by d (accepted_layout a);
-      least_sums_lem = λ d a. sums_by d (accepted_layout a) smallest;
+      best_sums = λ d a. best_sums_by d (accepted_layout a);
+      least_sums = λ d a. sums_by d (accepted_layout a) smallest;
       work_bytes = omega arith;
     }
   where

@@ -14,13 +14,13 @@ use Rattle.card.specs.declared.Card.{Card}
 pub record Summed (best least words : ℕ) : Type 0 where
   pub best_most : best ≤ 2 ^ 53
   pub least_most : least ≤ 2 ^ 53
-  pub words-least : 0 < words
+  pub words_least : 0 < words
   pub words_most : words ≤ 2 ^ 53
 
 -- n states are worked out: the round that dropped each, and its sums
 pub record Worked (dropped bests leasts : List ℕ) (words n : ℕ) : Type 0 where
   pub few : n ≤ max_states
-  pub rounds-held : n ≤ length dropped
+  pub rounds_held : n ≤ length dropped
   pub bests_held : n ≤ length bests
   pub leasts_held : n ≤ length leasts
   pub summed : (s : ℕ) → s < n → Summed (get_or bests s 0) (get_or leasts s 0) words

@@ -66,7 +66,7 @@ module _ (d : Decoded) (ok : SheetOk d) where
           least_average = average_is _ (least-sum_most d ok t);
           best_earned =
               subst (MostEarned d d.horizon t) (best_is d d.horizon t) (sum-earned d fits largest d.horizon t kept);
-          least-earned = sum-earned d fits smallest d.horizon t kept;
+          least_earned = sum-earned d fits smallest d.horizon t kept;
           ordered = least_best d d.horizon t;
           none = λ z. (none_best d.horizon z, none_least d.horizon z);
         }

@@ -53,7 +53,7 @@ pub record WorthOf (d : Decoded) (h : ℕ) (t : List ℕ) (most least : ℕ) (a 
   pub best_average : ExactAverage d h most a.best
   pub least_average : ExactAverage d h least a.least
   pub best_earned : MostEarned d h t most
-  pub least-earned : LeastEarned d h t least
+  pub least_earned : LeastEarned d h t least
   pub ordered : least ≤ most
   -- over no steps both are 0
   pub none : h ≡ 0 → (most ≡ 0) × (least ≡ 0)

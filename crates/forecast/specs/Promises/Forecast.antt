@@ -76,7 +76,7 @@ pub record MakesForecast (s lent : List ℕ) (r : Forecasting) : Type 0 where
       → card ≡ forecast_card d
   pub refused : (verdict_number r.verdict ≡ 0 → ⊥) → Unforetold r.card
   -- the sums behind the averages, by document 01's recursion
-  pub best_sums_lem : (d : Decoded) → Accepted s d → BestSums d (best_at d)
-  pub least_sums_lem : (d : Decoded) → Accepted s d → LeastSums d (least_at d)
+  pub best_sums : (d : Decoded) → Accepted s d → BestSums d (best_at d)
+  pub least_sums : (d : Decoded) → Accepted s d → LeastSums d (least_at d)
   -- the bytes of work memory that the constants ask for
   pub work_bytes : asked_bytes forecast_work ≤ work_most

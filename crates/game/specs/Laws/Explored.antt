@@ -158,7 +158,7 @@ module _
                   subst (λ (u : S). Leads u l (get_or states n (name start))) (sym (names j known ∙ ap name here-is))
                   (subst (Leads (name (get_or (stage j) j start)) l) (sym (names n hn ∙ ap name (lands K done n j l hj added)))
                   (leads (get_or (stage j) j start) l (subst (Reach A M ok next start) here-is (reached j known)) added.letter added.at.passes));
-              states-before = λ i m k h low e.
+              states_before = λ i m k h low e.
                   let lowK : k < length (stage K) = omega (arith, size) in
                   let early : i < length (stage j) = omega (arith, added.looked) in
                   let x = step_ends i m k (omega arith) lowK e in
@@ -170,7 +170,7 @@ module _
                   front_number K done (stage j) (explore_later A same M ok next start j K (omega arith)) _ has k lowK
                   (x.2 ∙ ap (λ (a : A). next a m) same-state) in
                   omega (arith, low-in, extends_length (stage j) (within j l) (met_grows A same M ok next start (stage j) (get_or (stage j) j start) l));
-              letters-before = λ m k h low e.
+              letters_before = λ m k h low e.
                   let lowK : k < length (stage K) = omega (arith, size) in
                   let x = step_ends j m k known lowK e in
                   let has : Has A same (next (get_or (stage j) j start) m) (within j l) =

@@ -49,7 +49,7 @@ module _
             let q = x.all u (generated.closed s u a i e) in
             let step : Leads (get_or L p.0 start) a (get_or L q.0 start) =
             subst (λ (y : S). Leads y a (get_or L q.0 start)) (sym p.2) (subst (Leads s a) (sym q.2) e) in
-            (q.0, m.states-before p.0 a q.0 (omega (arith, p.1)) q.1 step, q.2)
+            (q.0, m.states_before p.0 a q.0 (omega (arith, p.1)) q.1 step, q.2)
 
     -- ---- two lists
 
@@ -73,8 +73,8 @@ module _
         not_later : (i a : ℕ) → Meets K k i a → (j < i → ⊥) × (j ≡ i → l < a → ⊥)
         not_later i a w =
             let q = landed in (
-              λ u. not_lower h q.0 (w.states-before j l q.0 u q.1 q.3) q.2,
-              λ e u. not_lower h q.0 (w.letters-before l q.0 u q.1
+              λ u. not_lower h q.0 (w.states_before j l q.0 u q.1 q.3) q.2,
+              λ e u. not_lower h q.0 (w.letters_before l q.0 u q.1
                   (subst (λ (z : ℕ). Leads (get_or K z start) l (get_or K q.0 start)) e q.3)) q.2,
             )
 

@@ -9,8 +9,8 @@ module _ (S : Type 0) (In : S → Type 0) (Leads : S → ℕ → S → Type 0) (
   pub record MetBy (states : List S) (k j l : ℕ) : Type 0 where
     pub known : j < length states
     pub leads : Leads (get_or states j start) l (get_or states k start)
-    pub states-before : (i m n : ℕ) → i < j → n < length states → Leads (get_or states i start) m (get_or states n start) → n < k
-    pub letters-before : (m n : ℕ) → m < l → n < length states → Leads (get_or states j start) m (get_or states n start) → n < k
+    pub states_before : (i m n : ℕ) → i < j → n < length states → Leads (get_or states i start) m (get_or states n start) → n < k
+    pub letters_before : (m n : ℕ) → m < l → n < length states → Leads (get_or states j start) m (get_or states n start) → n < k
 
   -- the list holds each state of In once, and no other; a state's number is its place; the start has number 0, and each
   -- other state is first met by some step

@@ -62,7 +62,7 @@ module _ {g : Game} {choices rows order numbers : List ℕ} {n count : ℕ} (fol
     pub row-chosen : (j i : ℕ) → j < count → i < g.ins → output_by (get_or rows j 0) i ≡ chosen g choices (get_or order j 0) i
     row-chosen j i hj hi =
         row-digit following (low j hj) outs-most
-        (rw (guarded.numbered.states j (omega (arith, guarded.numbered.counted))) (guarded.rows-chosen j hj)) i hi
+        (rw (guarded.numbered.states j (omega (arith, guarded.numbered.counted))) (guarded.rows_chosen j hj)) i hi
 
     next_chosen : (j i : ℕ) → j < count → i < g.ins → next_by g (get_or rows j 0) (get_or order j 0) i ≡ follows g choices (get_or order j 0) i
     unfolding follows
@@ -83,7 +83,7 @@ module _ {g : Game} {choices rows order numbers : List ℕ} {n count : ℕ} (fol
         (λ j i hj hi. number_chosen j i hj (omega arith))
 
     -- and its entries can be read
-    module _ (rows-room : n ≤ length rows) (order_room : n ≤ length order) (numbers_room : n ≤ length numbers) where
+    module _ (rows_room : n ≤ length rows) (order_room : n ≤ length order) (numbers_room : n ≤ length numbers) where
       entered : (j : ℕ) → j < count → Entered (kind_for count) g (get_or rows j 0) numbers (get_or order j 0)
       entered j h =
           record {
@@ -112,7 +112,7 @@ module _ {g : Game} {choices rows order numbers : List ℕ} {n count : ℕ} (fol
       tabled =
           record {
             few = omega (arith, count_most, following.states);
-            rows-room = omega (arith, count_most);
+            rows_room = omega (arith, count_most);
             order_room = omega (arith, count_most);
             entered = entered;
           }

@@ -46,6 +46,6 @@ pub record Entered (kind : RowKind) (g : Game) (row : ℕ) (numbers : List ℕ) 
 -- so has each of `count` guard states
 pub record Tabled (g : Game) (rows order numbers : List ℕ) (count : ℕ) : Type 0 where
   pub few : count ≤ max_states
-  pub rows-room : count ≤ length rows
+  pub rows_room : count ≤ length rows
   pub order_room : count ≤ length order
   pub entered : (j : ℕ) → j < count → Entered (kind_for count) g (get_or rows j 0) numbers (get_or order j 0)

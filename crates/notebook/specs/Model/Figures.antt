@@ -99,7 +99,7 @@ abbrev pub states : List ℕ → ℕ
 states sheet = state_count (sheet_of sheet)
 
 -- the scores of the outputs at a tuple and an input, by document 01: reward × 2^(inputs × H) + Best(s', H). `best_at` is Best, as the
--- forecast promises (`best_sums_lem`)
+-- forecast promises (`best_sums`)
 unfoldable pub scores_at : Decoded → List ℕ → ℕ → List ℕ
 scores_at d t i = tab (outputs_of d) (λ o. reward d t i o * 2 ^ (input_lines d * d.horizon) + best_at d d.horizon (advance d t i o))
 

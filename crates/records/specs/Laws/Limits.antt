@@ -9,7 +9,7 @@ use Rattle.records.specs.Meaning.Limits.{max_inputs, max_outputs, max_lines, max
 pub record Lines (mode inputs outputs : ℕ) : Type 0 where
   pub mode_is : mode ≤ 1
   pub inputs_most : inputs ≤ max_inputs
-  pub outputs-least : 1 ≤ outputs
+  pub outputs_least : 1 ≤ outputs
   pub outputs_most : outputs ≤ max_outputs
   pub lines_most : inputs + outputs ≤ max_lines
   pub shield : mode ≡ 1 → outputs ≤ inputs
@@ -20,7 +20,7 @@ lines_facts m i o e =
     record {
       mode_is = leb-true m 1 (search and_left);
       inputs_most = leb-true i max_inputs (search (and_left, and_right));
-      outputs-least = leb-true 1 o (search (and_left, and_right));
+      outputs_least = leb-true 1 o (search (and_left, and_right));
       outputs_most = leb-true o max_outputs (search (and_left, and_right) depth 9);
       lines_most = leb-true (i + o) max_lines (search (and_left, and_right) depth 9);
       shield = λ q. leb-true o i (or-not (eqb m 0) (leb o i) (search (and_left, and_right) depth 9) (ne_eqb m 0 (λ z. omega arith)));

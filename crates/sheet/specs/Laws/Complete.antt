@@ -73,7 +73,7 @@ module _ (s r : List ℕ) (d : Decoded) (o : HeadOk d) (e : s ≡ encode_head d 
       (record {
         mode_most = o.mode;
         site_most = o.site;
-        outputs-least = o.outputs-least;
+        outputs_least = o.outputs_least;
         outputs_most = o.outputs_most;
         inputs = o.inputs;
         lines = o.lines;
@@ -267,13 +267,13 @@ bytes-rows d a o =
     bytes-cat (length a.rows) (λ q. get_or a.rows q [])
     (λ q l.
     let u : q < length a.accept = omega (arith, o.rows) in
-    bytes_of (get_or a.rows q []) (λ i v. omega (arith, o.next q i u (omega (arith, o.row q u)), o.states_most_lem)))
+    bytes_of (get_or a.rows q []) (λ i v. omega (arith, o.next q i u (omega (arith, o.row q u)), o.states_most)))
 
 bytes_monitor : (d : Decoded) (a : Automaton) → HeadOk d → MonitorOk d a → Bytes (encode_monitor d a)
 unfolding encode_monitor
 bytes_monitor d a h o =
     let n : ℕ = 4 + length a.accept + length a.accept * letters d a in
-    let most : length a.accept * letters d a ≤ max_monitor_states * max_letters = mul-le-mul o.states_most_lem (letters_most d h a) in
+    let most : length a.accept * letters d a ≤ max_monitor_states * max_letters = mul-le-mul o.states_most (letters_most d h a) in
     bytes_append (n % 256 ∷ n / 256 ∷ 2 ∷ 0 ∷ a.role ∷ a.weight ∷ length a.accept ∷ a.start ∷ []) (a.accept ++ row_bytes a)
     (bytes_small (n % 256 ∷ n / 256 ∷ 2 ∷ 0 ∷ a.role ∷ a.weight ∷ length a.accept ∷ a.start ∷ []) (omega arith))
     (bytes_append a.accept (row_bytes a)

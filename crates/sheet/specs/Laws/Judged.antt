@@ -18,7 +18,7 @@ use Rattle.sheet_fields.specs.Meaning.Monitor.{role_ok, states_ok, bytes_most, m
 pub record JudgedNumbers (mode site outputs matching size : ℕ) : Type 0 where
   pub mode_most : mode ≤ 1
   pub site_most : site ≤ max_inputs
-  pub outputs-least : 1 ≤ outputs
+  pub outputs_least : 1 ≤ outputs
   pub outputs_most : outputs ≤ max_outputs
   pub inputs : guard_lines mode site outputs ≤ max_inputs
   pub lines : guard_lines mode site outputs + outputs ≤ max_lines
@@ -39,7 +39,7 @@ numbers_facts m i o w size e =
     record {
       mode_most = l.mode_is;
       site_most = leb-true i max_inputs (search (and_left, and_right) depth 9);
-      outputs-least = l.outputs-least;
+      outputs_least = l.outputs_least;
       outputs_most = l.outputs_most;
       inputs = l.inputs_most;
       lines = l.lines_most;
@@ -63,7 +63,7 @@ numbers_test m i o w size n =
       le-leb o max_outputs n.outputs_most,
       le-leb m 1 n.mode_most,
       le-leb (guard_lines m i o) max_inputs n.inputs,
-      le-leb 1 o n.outputs-least,
+      le-leb 1 o n.outputs_least,
       le-leb (guard_lines m i o + o) max_lines n.lines,
       shield m i o n.mode_most,
       eq-eqb size (head_numbers + o) n.size_is,
@@ -128,8 +128,8 @@ pub record Role (mode role weight : ℕ) : Type 0 where
 
 -- the body of a monitor whose rows have w letters
 pub record Body (s : List ℕ) (at w size : ℕ) : Type 0 where
-  pub states-least : 1 ≤ states_at s at
-  pub states_most_lem : states_at s at ≤ max_monitor_states
+  pub states_least : 1 ≤ states_at s at
+  pub states_most : states_at s at ≤ max_monitor_states
   pub start : first_at s at < states_at s at
   pub size_is : size ≡ monitor_numbers + states_at s at + states_at s at * w
   pub accept : (q : ℕ) → q < states_at s at → get_or s (accept_from at + q) 0 ≤ 1
@@ -181,8 +181,8 @@ monitor_facts s mode site outputs at size e =
     let least : 1 ≤ states_at s at = leb-true 1 n (search (and_left, and_right) depth 9) in (
       role_facts mode (role_at s at) (weight_at s at) (search (and_left, and_right) depth 9),
       record {
-        states-least = least;
-        states_most_lem = leb-true n max_monitor_states (search (and_left, and_right) depth 9);
+        states_least = least;
+        states_most = leb-true n max_monitor_states (search (and_left, and_right) depth 9);
         start = ltb-true (first_at s at) n (search (and_left, and_right) depth 9);
         size_is = eqb-true size (monitor_numbers + n + n * w) (search (and_left, and_right) depth 9);
         accept = λ q l. leb-true (get_or s (accept_from at + q) 0) 1
@@ -205,8 +205,8 @@ monitor_test s mode site outputs at size r b =
     rw (
       le-leb monitor_numbers size (omega (arith, b.size_is)),
       role_test mode (role_at s at) (weight_at s at) r,
-      le-leb 1 n b.states-least,
-      le-leb n max_monitor_states b.states_most_lem,
+      le-leb 1 n b.states_least,
+      le-leb n max_monitor_states b.states_most,
       lt-ltb (first_at s at) n b.start,
       eq-eqb size (monitor_numbers + n + n * w) b.size_is,
       all_of n (λ k. leb (get_or s (accept_from at + k) 0) 1) (λ q l. le-leb (get_or s (accept_from at + q) 0) 1 (b.accept q l)),

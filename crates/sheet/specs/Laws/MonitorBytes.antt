@@ -105,8 +105,8 @@ module _ (s p r : List ℕ) (d : Decoded) (a : Automaton) (o : MonitorOk d a) (e
     body : Body s (body_at (length p)) (letters d a) (size_at s (length p))
     body =
         record {
-          states-least = rw states_back o.states-least;
-          states_most_lem = rw states_back o.states_most_lem;
+          states_least = rw states_back o.states_least;
+          states_most = rw states_back o.states_most;
           start = rw (states_back, start_back) o.start;
           size_is = rw states_back size_back;
           accept = rw states_back (λ q l. rw (accept_back q l) (o.accept q l));

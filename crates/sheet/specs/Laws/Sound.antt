@@ -54,7 +54,7 @@ head_ok_lem s k size b n l =
     record {
       mode = n.mode_most;
       site = n.site_most;
-      outputs-least = n.outputs-least;
+      outputs_least = n.outputs_least;
       outputs_most = n.outputs_most;
       inputs = n.inputs;
       lines = n.lines;
@@ -98,8 +98,8 @@ head_bytes s k b e n =
 record PlaceOk (s : List ℕ) (h : Sheet) (m : Monitor) : Type 0 where
   role : Role h.mode m.role m.weight
   weight_byte : m.weight < 256
-  states-least : 1 ≤ m.states
-  states_most_lem : m.states ≤ max_monitor_states
+  states_least : 1 ≤ m.states
+  states_most : m.states ≤ max_monitor_states
   start : m.start < m.states
   accept : (q : ℕ) → q < m.states → get_or s (m.accept + q) 0 ≤ 1
   next : (k : ℕ) → k < m.states * width h m → get_or s (m.rows + k) 0 < m.states
@@ -111,8 +111,8 @@ place_ok s h at size b r y =
     record {
       role = r;
       weight_byte = b (at + 1);
-      states-least = y.states-least;
-      states_most_lem = y.states_most_lem;
+      states_least = y.states_least;
+      states_most = y.states_most;
       start = y.start;
       accept = y.accept;
       next = y.next;
@@ -128,8 +128,8 @@ monitor_ok_lem s h m p =
       weight_byte = p.weight_byte;
       soft = p.role.soft;
       unweighted = p.role.unweighted;
-      states-least = omega (arith, p.states-least);
-      states_most_lem = omega (arith, p.states_most_lem);
+      states_least = omega (arith, p.states_least);
+      states_most = omega (arith, p.states_most);
       start = omega (arith, p.start);
       accept = λ q l. let u : q < m.states = omega arith in omega (arith, accept_at s h m q u, p.accept q u);
       rows = length-rows s h m ∙ sym n;

@@ -48,7 +48,7 @@ letters d a = letters_read a.role d.site d.outputs
 pub record HeadOk (d : Decoded) : Type 0 where
   pub mode : d.mode ≤ 1
   pub site : d.site ≤ max_inputs
-  pub outputs-least : 1 ≤ d.outputs
+  pub outputs_least : 1 ≤ d.outputs
   pub outputs_most : d.outputs ≤ max_outputs
   pub inputs : input_lines d ≤ max_inputs
   pub lines : input_lines d + d.outputs ≤ max_lines
@@ -75,8 +75,8 @@ pub record MonitorOk (d : Decoded) (a : Automaton) : Type 0 where
   pub weight_byte : a.weight < 256
   pub soft : a.role ≡ 1 → 1 ≤ a.weight
   pub unweighted : (a.role ≡ 1 → ⊥) → a.weight ≡ 0
-  pub states-least : 1 ≤ length a.accept
-  pub states_most_lem : length a.accept ≤ max_monitor_states
+  pub states_least : 1 ≤ length a.accept
+  pub states_most : length a.accept ≤ max_monitor_states
   pub start : a.start < length a.accept
   pub accept : (q : ℕ) → q < length a.accept → get_or a.accept q 0 ≤ 1
   pub rows : length a.rows ≡ length a.accept

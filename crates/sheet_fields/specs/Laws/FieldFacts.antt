@@ -47,8 +47,8 @@ head_facts s start size e =
 
 -- the numbers of a monitor
 pub record States (states start letters size : ℕ) : Type 0 where
-  pub states-least : 1 ≤ states
-  pub states_most_lem : states ≤ max_monitor_states
+  pub states_least : 1 ≤ states
+  pub states_most : states ≤ max_monitor_states
   pub start_below : start < states
   pub size_is : size ≡ monitor_numbers + states + states * letters
 
@@ -57,8 +57,8 @@ pub states_facts : (states start letters size : ℕ) → states_ok states start 
 unfolding states_ok
 states_facts states start letters size e =
     record {
-      states-least = leb-true 1 states (search and_left);
-      states_most_lem = leb-true states max_monitor_states (search (and_left, and_right));
+      states_least = leb-true 1 states (search and_left);
+      states_most = leb-true states max_monitor_states (search (and_left, and_right));
       start_below = ltb-true start states (search (and_left, and_right));
       size_is = eqb-true size (monitor_numbers + states + states * letters) (search (and_left, and_right));
     }

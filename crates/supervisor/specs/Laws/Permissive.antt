@@ -134,7 +134,7 @@ module _ (d : Decoded) (fits : state_count d ≤ max_states) where
         mask_none = λ k h lost i hi.
             mask_lost (cells_of d) (dropped_of d) (inputs_of d) (outputs_of d) k i
             ((state_out d fits k h).1 lost);
-        after-history = λ h p.
+        after_history = λ h p.
             let l = lands start h p in
             let t : List ℕ = reached (List ℕ) (advance d) (first_tuple d) h in (
               number_of d t,

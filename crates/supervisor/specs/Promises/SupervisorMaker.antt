@@ -49,7 +49,7 @@ pub record Means (d : Decoded) (n : ℕ) (table : List ℕ) : Type 0 where
       → (bit_at (mask k i) o ≡ 1) ↔ Allowed d (get_or tuples k (first_tuple d)) i o
   pub mask_none : (k : ℕ) → k < n → Lost d (get_or tuples k (first_tuple d)) → (i : ℕ) → i < inputs_of d → mask k i ≡ 0
   -- after every history of allowed steps, at the state reached, bit o of the mask of input i is 1 exactly if o is allowed
-  pub after-history : (h : List Step) → Permitted (inputs_of d) (AllowedAfter d) h
+  pub after_history : (h : List Step) → Permitted (inputs_of d) (AllowedAfter d) h
       → (k : ℕ) × (k < n) × (get_or tuples k (first_tuple d) ≡ reached (List ℕ) (advance d) (first_tuple d) h)
       × ((i o : ℕ) → i < inputs_of d → o < 8 → (bit_at (mask k i) o ≡ 1) ↔ AllowedAfter d h i o)
   -- the allowed outputs are those of the maximally permissive supervisor

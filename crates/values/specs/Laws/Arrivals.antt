@@ -75,7 +75,7 @@ module _ {g : Game} {n : ℕ} (s : SizedGame g n) where
       record {
         inputs_least = s.inputs_least;
         inputs_most = s.inputs_most;
-        outputs-least = s.outputs-least;
+        outputs_least = s.outputs_least;
         outputs_most = s.outputs_most;
         states = s.states;
         rows = s.rows;

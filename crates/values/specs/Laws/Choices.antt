@@ -88,7 +88,7 @@ module _ (g : Game) (literals values : List ℕ) (factor : ℕ) where
             record {
               states = sized.states;
               steps = steps_of sized;
-              chosen-room = rw length-tab (omega arith);
-              output = λ at h. rw (choices-at at h) (choice_low _ _ sized.outputs-least);
+              chosen_room = rw length-tab (omega arith);
+              output = λ at h. rw (choices-at at h) (choice_low _ _ sized.outputs_least);
               closed = λ k r. (kept_closed g (choices g n literals values factor) n states start choices_stay k r).0;
             }

@@ -61,7 +61,7 @@ choices g n literals values factor =
 pub record SizedGame (g : Game) (n : ℕ) : Type 0 where
   pub inputs_least : 1 ≤ g.ins
   pub inputs_most : g.ins ≤ max_ins
-  pub outputs-least : 1 ≤ g.outs
+  pub outputs_least : 1 ≤ g.outs
   pub outputs_most : g.outs ≤ max_outs
   pub states : n ≤ max_states
   pub rows : n * (g.ins * g.outs) ≤ length g.cells

@@ -32,7 +32,7 @@ pub offset_bounds-rows-j : goal.offset_bounds-rows-j
 offset_bounds-rows-j c = omega (arith, c.requires.tabled.few)
 
 pub bounds-rows-j : goal.bounds-rows-j
-bounds-rows-j c = omega (arith, c.requires.tabled.rows-room)
+bounds-rows-j c = omega (arith, c.requires.tabled.rows_room)
 
 pub offset_bounds-order-j : goal.offset_bounds-order-j
 offset_bounds-order-j c = omega (arith, c.requires.tabled.few)
