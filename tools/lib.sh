@@ -156,8 +156,13 @@ make_listing() {
     update "prove run listing listing $lister" "$lister" $(proved_of)
 }
 
-# The listing program on standard input, once it is made.
-run_listing() { "$root/$lister" || stop 2 "the listing program ended with status $?"; }
+# The listing program on standard input, once it is made. Status 1 where a read or a write failed, which it says on standard error.
+run_listing() {
+    "$root/$lister" && return
+    status=$?
+    [ "$status" -eq 1 ] || stop 2 "the listing program ended with status $status"
+    return 1
+}
 
 # The bytes of what tools/hex.awk writes: lines of octal escapes, which printf knows in every shell.
 from_octal() { while IFS= read -r escapes; do printf "$escapes"; done; }
