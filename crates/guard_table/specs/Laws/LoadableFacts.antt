@@ -11,7 +11,7 @@ use Rattle.guard_table.specs.Meaning.RowKind.{states_most}
 use Rattle.guard_table.specs.Meaning.GuardTable.{head_length, length_in, head_mode, head_inputs, head_outputs, head_horizon, head_count, shown_length, shows_kind, kind_of, output_in, next_in}
 use Rattle.guard_table.specs.Meaning.Loadable.{size_ok, fields_ok, table_head_ok, entry_ok, entries_ok, row_ok, rows_ok, loadable}
 use Rattle.guard_table.specs.Model.Inside.{Sized, Closed}
-use Rattle.guard_table.specs.Laws.RowKind.{states_most}
+use Rattle.guard_table.specs.Laws.RowKind.{states_most_lem}
 
 -- a slice that shows its rows' kind is long enough to
 pub shown_long : (t : List ℕ) → shows_kind t ≡ true → shown_length ≤ length t
@@ -40,7 +40,7 @@ table_head_facts t e =
       horizon = search (and_left, and_right) depth 9;
       count-least = leb-true 1 (head_count t) (search (and_left, and_right) depth 9);
       count_named = named;
-      count_most = omega (arith, named, states_most (kind_of t));
+      count_most = omega (arith, named, states_most_lem (kind_of t));
       fills = eqb-true (length t) (length_in (kind_of t) (head_inputs t) (head_count t)) (search (and_left, and_right) depth 9);
     }
 

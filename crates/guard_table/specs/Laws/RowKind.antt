@@ -19,9 +19,9 @@ width_most Narrow = omega arith
 width_most Wide = omega arith
 
 -- no table has more states than there may be
-pub states_most : (kind : RowKind) → states_most kind ≤ max_states
-states_most Narrow = omega arith
-states_most Wide = omega arith
+pub states_most_lem : (kind : RowKind) → states_most kind ≤ max_states
+states_most_lem Narrow = omega arith
+states_most_lem Wide = omega arith
 
 -- the kind for a count: narrow up to 256, then wide; its rows can name that many
 pub kind_narrow : (count : ℕ) → count ≤ narrow_most → kind_for count ≡ Narrow

@@ -3,7 +3,7 @@ use Rattle.std.proofs.Common.{arith}
 use borrow.Author.Tests.{le-leb}
 use Rattle.records.specs.Laws.Tests.{cases}
 use Rattle.guard_table.specs.Meaning.RowKind.{states_most}
-use Rattle.guard_table.specs.Laws.RowKind.{states_most}
+use Rattle.guard_table.specs.Laws.RowKind.{states_most_lem}
 use Rattle.guard_table.specs.Meaning.Loadable.{size_ok}
 use Rattle.guard_table.proofs.loadable.size_ok.Goals as goal
 
@@ -18,7 +18,7 @@ returns-then-states-count c = search (cases, ← c.states.ensures)
 pub table_length-requires : goal.table_length-requires
 table_length-requires c =
     let s = c in
-    (s.requires, omega (arith, c.states.ensures, states_most s.args.layout.kind))
+    (s.requires, omega (arith, c.states.ensures, states_most_lem s.args.layout.kind))
 
 pub returns : goal.returns
 unfolding size_ok
