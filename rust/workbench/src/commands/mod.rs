@@ -50,10 +50,10 @@ pub const COMMANDS: &[Command] = &[
 ];
 
 const FILES: &str = "\
-FILE is a text sheet, hexadecimal text or bytes, decided by its content; - is standard input, but not in
-run, which reads the calls there. list, dot and run take stored guard tables too.
+FILE is a text sheet, hexadecimal text or bytes, decided by its content; - is standard input. list, dot
+and run take stored guard tables too.
 Exit status: 0; 1 the sheet, the table or a step is refused, or the text has errors; 2 wrong use; 3 a
-file cannot be read or written, or the workbench reads a sheet otherwise than the library: report it.
+file cannot be read or written, or the reader that tells places and names differs from the library.
 ";
 
 /// Runs the command that the words name.

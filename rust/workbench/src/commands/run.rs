@@ -23,12 +23,11 @@ in), or the names of the lines that are on, as `tray !lid`; lines not named are 
 site's lines, a slash and the proposal: `tray / open`. Or a line is one of rewind, unload and load. Blank
 lines and what comes after # are passed over. Each call is answered by a line: the output by names, the
 state, the steps and the deviations; or the refusal. A line that cannot be read calls nothing, and is told
-on standard error. The run goes on after both, and then exits 1 at the end.
+on standard error. The run goes on after both, and then exits 1 at the end. FILE cannot be - here.
 
 For a board that drives a device: rewind, and every load, begins the monitors anew and forgets what the
-device did, so load and rewind only when it is as at the start (a lock closed, a washer at rest). A
-refused step has no output to drive: drive one that is safe whatever came before, and do not hold the
-last one, which may break what must hold.
+device did, so load and rewind only when it is as at the start. A refused step has no output to drive:
+drive the one that is safe, since to hold the last one is a step that no guard has judged.
 ",
     files: 1,
     options: &[],
