@@ -7,7 +7,7 @@ use Rattle.board.proofs.Board.unload.Goals as goal
 pub returns-then-is_live : goal.returns-then-is_live
 unfolding unload_on
 returns-then-is_live c =
-    unload_promise _ _ (simp (c.of.ensures, said c.is_live.ensures c.if-is_live.true, c.empty.ensures.whole))
+    unload_promise _ _ (simp (c.of.ensures, said c.is_live.ensures c.if-is_live.true) (search c))
 
 pub returns : goal.returns
 unfolding unload_on

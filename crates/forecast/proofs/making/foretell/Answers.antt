@@ -29,7 +29,7 @@ fill_gains-requires c =
     let long = c.requires.forecast_room in record { fits = c.requires.fits; by_index = tuples_in_range c.requires.fits.ok c.requires.playable; n_le_max_states = (most, (long.tuples_long, omega (arith, most, long.gains_long))) }
 
 pub fill_bonuses-requires : goal.fill_bonuses-requires
-fill_bonuses-requires c = let counts = counts_low c.requires.fits c.requires.playable _ _ c.pow2-ins.ensures c.pow2-outs.ensures in record { by_index = (c.args.s.now, c.requires.fits); le_ins = (counts.0, omega (arith, counts.4, c.requires.forecast_room.bonuses_long)) }
+fill_bonuses-requires c = let counts = counts_low c.requires.fits c.requires.playable _ _ c.pow2-ins.ensures c.pow2-outs.ensures in record { fits = (c.args.s.now, c.requires.fits); room = (counts.0, omega (arith, counts.4, c.requires.forecast_room.bonuses_long)) }
 
 pub foresee-words-requires : goal.foresee-words-requires
 foresee-words-requires c =

@@ -21,14 +21,14 @@ pub loop-l-init : goal.loop-l-init
 loop-l-init c = (omega arith, λ s. sym (put_none _ _))
 
 pub match_reward-requires : goal.match_reward-requires
-match_reward-requires c = (site_most c.requires.by_index.1, outputs_low c.requires.by_index.1)
+match_reward-requires c = (site_most c.requires.fits.1, outputs_low c.requires.fits.1)
 
 pub overflow_cast-bonuses : goal.overflow_cast-bonuses
 overflow_cast-bonuses c =
     omega (
       arith,
-      c.match_reward.ensures c.requires.by_index.0,
-      match_most (decoded c.requires.by_index.0 c.args.sheet) c.requires.by_index.1.ok
+      c.match_reward.ensures c.requires.fits.0,
+      match_most (decoded c.requires.fits.0 c.args.sheet) c.requires.fits.1.ok
           (c.loop-l.l % c.args.ins) (c.loop-l.l / c.args.ins),
     )
 

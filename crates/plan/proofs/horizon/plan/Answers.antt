@@ -29,7 +29,7 @@ fill_gains-requires c =
     }
 
 pub fill_bonuses-requires : goal.fill_bonuses-requires
-fill_bonuses-requires c = let counts = counts_low c.requires.fits c.requires.playable c.args.ins c.args.outs c.requires.ins_value.0 c.requires.ins_value.1.0 in record { by_index = (c.args.s.now, c.requires.fits); le_ins = (counts.0, omega (arith, counts.4, c.requires.room.bonuses_long)) }
+fill_bonuses-requires c = let counts = counts_low c.requires.fits c.requires.playable c.args.ins c.args.outs c.requires.ins_value.0 c.requires.ins_value.1.0 in record { fits = (c.args.s.now, c.requires.fits); room = (counts.0, omega (arith, counts.4, c.requires.room.bonuses_long)) }
 
 pub value_rows-words-requires : goal.value_rows-words-requires
 value_rows-words-requires c =
