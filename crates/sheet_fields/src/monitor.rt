@@ -9,6 +9,7 @@ use records::limits::Limits;
 use records::numbers::pow2;
 
 // Whether role and weight are in order: hard with no weight, soft with one, a limit in mode 1 with none.
+#[tactic(auto, using(records::specs::Laws::Tests::cases), unfolding(crate::specs::Meaning::Monitor::role_ok))]
 pub fn role_ok(mode: u8, role: u8, weight: u8) -> bool
     ensures { result ≡ role_ok mode role weight }
 {
