@@ -25,6 +25,7 @@ impl RowKind {
     pub const NARROW_STATES: usize = 256;
 
     // The kind of the rows of a guard with so many states.
+    #[tactic(auto, using(records::specs::Laws::Tests::cases), unfolding(crate::specs::Meaning::RowKind::kind_for))]
     pub fn of(count: usize) -> RowKind
         ensures { result ≡ kind_for count }
     {
