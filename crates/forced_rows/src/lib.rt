@@ -112,6 +112,7 @@ pub fn breaker_in(cell: u16) -> u8
 }
 
 // The monitor that output o breaks at input i of state k, if the state is one step from its end; else 255.
+#[tactic(auto, unfolding(crate::specs::Model::ForcedRows::breaker_at))]
 pub fn breaker_at(
     cells: &[u16],
     dropped: &[u16],

@@ -1,18 +1,11 @@
 -- `forced_rows::breaker_at`: a state that is not one step from its end, and one that is. Assumes nothing.
-use Rattle.std.proofs.Common.{ap, arith, sym, ℕ, ◌∙◌, ◌≡◌}
+use Rattle.std.proofs.Common.{ap, arith, sym, ℕ, ◌∙◌}
 use lib.ListN.{get_or}
 use Rattle.rounds.specs.Laws.CellPlaces.{CellLeads, in_row, leads_at}
 use Rattle.forced_rows.specs.Model.ForcedRows.{breaker_in}
-use Rattle.forced_rows.specs.Laws.ForcedRows.{breaker_one, breaker_else}
-use Rattle.forced_rows.proofs.breaker_at.Goals.{After-cell_at, Else-dropped-k-ne1, Then-dropped-k-ne1}
+use Rattle.forced_rows.specs.Laws.ForcedRows.{breaker_one}
+use Rattle.forced_rows.proofs.breaker_at.Goals.{After-cell_at}
 use Rattle.forced_rows.proofs.breaker_at.Goals as goal
-
--- the first test tells the states that one step ends
-far : (c : Then-dropped-k-ne1) → let a = c.args in get_or a.dropped.now a.k 0 ≡ 1 → ⊥
-far c e = omega arith
-
-near : (c : Else-dropped-k-ne1) → let a = c.args in get_or a.dropped.now a.k 0 ≡ 1
-near c = omega arith
 
 -- the cell lies in the table
 found : (c : After-cell_at) →
@@ -21,9 +14,6 @@ found : (c : After-cell_at) →
 found c =
     let p = c.requires in
     leads_at p.steps p.cell_entered p.i_lt_ins.0 p.i_lt_ins.1 c.cell_at.ensures
-
-pub returns-then-dropped-k-ne1 : goal.returns-then-dropped-k-ne1
-returns-then-dropped-k-ne1 c = sym (breaker_else _ _ _ _ _ _ _ (far c))
 
 pub cell_at-requires : goal.cell_at-requires
 cell_at-requires c =
@@ -41,4 +31,4 @@ returns c =
     let cells = c.args.cells.now in
     c.breaker_in.ensures
     ∙ ap (λ (x : ℕ). breaker_in (get_or cells x 0)) c.cell_at.ensures
-    ∙ sym (breaker_one _ _ _ _ _ _ _ (near (goal.at.returns c).Else-dropped-k-ne1))
+    ∙ sym (breaker_one _ _ _ _ _ _ _ (omega arith))
