@@ -55,6 +55,7 @@ impl Supervisor {
 }
 
 // Whether every slice of work memory is long enough.
+#[tactic(auto, using(records::specs::Laws::Tests::cases), unfolding(records::specs::Meaning::Work::long_enough))]
 fn work_ok(tuples: usize, cells: usize, dropped: usize) -> bool
     ensures { result ≡ long_enough supervisor_work (tuples ∷ cells ∷ dropped ∷ []) }
 {
