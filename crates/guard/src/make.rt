@@ -87,6 +87,7 @@ impl Guard {
 }
 
 // Whether every slice of work memory is long enough.
+#[tactic(auto, using(records::specs::Laws::Tests::cases), unfolding(records::specs::Meaning::Work::long_enough))]
 fn work_ok(
     tuples: usize,
     cells: usize,
