@@ -22,6 +22,7 @@ impl BoardBytes {
 }
 
 // Writes the board that a call hands back, where the call was not refused.
+#[tactic(auto, unfolding(crate::specs::Meaning::ByteCalls::bytes_after))]
 fn hand_back(board: &mut [u8; BoardBytes::LENGTH], number: u32, after: Board)
     ensures { board.new ≡ bytes_after board.old number after }
 {
