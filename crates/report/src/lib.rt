@@ -84,6 +84,7 @@ impl Report {
     }
 
     // The line of a sheet that is too long to be read.
+    #[tactic(auto, unfolding(crate::specs::Promises::Report::text_number))]
     pub fn too_long(text: &mut [u8]) -> Listed
         ensures { Writes true too_long_text text.old result text.new }
     {
