@@ -1,3 +1,4 @@
 -- Laws that belong to no one function.
 pub mod SheetSolved
 pub mod Opened
+pub mod Lost

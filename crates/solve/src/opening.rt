@@ -95,6 +95,7 @@ impl Opening {
 }
 
 // The same, then 8. `ok` says that the work memory is long enough.
+#[tactic(auto, using(crate::proofs::Lost::opened_kept, crate::proofs::Lost::opening_solved, crate::proofs::Lost::making_lost))]
 pub fn open_sheet(
     ok: bool,
     s: &[u8],

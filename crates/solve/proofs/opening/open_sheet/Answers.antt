@@ -29,15 +29,6 @@ solved c =
 pub refused-requires : goal.refused-requires
 refused-requires c = tt
 
-pub refused-requires-then-not-start : goal.refused-requires-then-not-start
-refused-requires-then-not-start c = tt
-
-pub returns-then-not-start : goal.returns-then-not-start
-returns-then-not-start c = let both = (opens_lost (solved (goal.at.returns-then-not-start c).In-Accepted) (search (not-true, c.if-not-start.true))) in record { memory = simp c.refused-then-not-start.ensures both.0; answer = simp c.refused-then-not-start.ensures both.1 }
-
 pub returns-in-Refused : goal.returns-in-Refused
 returns-in-Refused c =
     let both = (opens_unsolved _ (subst (Says (goal.at.returns-in-Refused c).After-solve_sheet-solving) c.in-Refused.is c.solve_sheet-solving.ensures.memory)) in record { memory = simp c.refused.ensures both.0; answer = simp c.refused.ensures both.1 }
-
-pub returns-else-not-start : goal.returns-else-not-start
-returns-else-not-start c = let both = opens_solved (solved (goal.at.returns-else-not-start c).In-Accepted) c.in-Accepted.is c.solve_sheet-solving.ensures.answer (search (not-false, c.if-not-start.false)) in record { memory = both.0; answer = both.1 }
