@@ -12,7 +12,7 @@ use Rattle.sheet.specs.declared.layout.Verdict.{Verdict}
 use Rattle.sheet.specs.declared.layout.Verdict.TheVariants.{Accepted}
 use Rattle.solve.proofs.Opened.{opens_solved}
 use Rattle.solve.specs.Model.SolvingSheet.{solving_number, SolvesSheet, SolvingAnswer}
-use Rattle.solve.specs.Model.Making.{sheet_of, many_number, lost_number, table_number, room_number, making_number}
+use Rattle.solve.specs.Model.Making.{sheet_of, many_number, lost_number, table_number, making_number}
 use Rattle.solve.specs.Model.Opening.{opening_number, Opened}
 
 -- what is due past 7
