@@ -65,6 +65,7 @@ fn is_at_end<R: Read>(input: &mut R) -> io::Result<bool>
 
 // What is printed for what was read, `size` bytes at the start of the memory; `ended` says that the end was seen behind them. Answers the
 // text's length: 0, and nothing is printed, where the end was not seen and they are no more than a sheet's.
+#[tactic(auto, unfolding(crate::specs::Promises::Printed::read_text, crate::specs::Promises::Printed::printed, report::specs::Promises::Report::text_number))]
 fn print(
     memory: &[u8; Listing::READ],
     size: usize,
