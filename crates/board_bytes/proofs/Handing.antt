@@ -5,6 +5,7 @@ use mathlib.Core.Path.{◌≡◌, refl, ap, ap₂, subst, ◌∙◌}
 use mathlib.Core.List.{List}
 use Prim.Native.Nat.{ℕ}
 use native.Mathlib.Omega.{arith}
+use borrow.Author.Tests.{eq-eqb, ne_eqb}
 use Rattle.game.specs.Meaning.Book.{Call, load, step, rewind, unload, Answer}
 use Rattle.board.specs.Meaning.Board.{change_number, rewind_on, unload_on}
 use Rattle.board.specs.Meaning.Load.{load_on, load_number}
@@ -15,9 +16,18 @@ use Rattle.board.specs.declared.Board.{Board}
 use Rattle.board.specs.declared.answers.Loading.{Loading}
 use Rattle.board.specs.declared.answers.Stepping.{Stepping}
 use Rattle.board.specs.declared.answers.Changing.{Changing}
-use Rattle.board_bytes.specs.Meaning.BoardBytes.{board_in}
+use Rattle.board_bytes.specs.Meaning.BoardBytes.{board_in, board_bytes}
 use Rattle.board_bytes.specs.Meaning.ByteCalls.{bytes_after, in_one}
 use Rattle.board_bytes.specs.Promises.ByteCalls.{Calls, LoadCall, StepCall, RewindCall, UnloadCall}
+
+-- the two ways of a test on the number
+pub written : (before : List ℕ) (n : ℕ) (b : Board) (after : List ℕ) → n ≡ 0 → after ≡ board_bytes b → after ≡ bytes_after before n b
+unfolding bytes_after
+written before n b after e h = rw (eq-eqb n 0 e) h
+
+pub untouched : (before : List ℕ) (n : ℕ) (b : Board) → (n ≡ 0 → ⊥) → before ≡ bytes_after before n b
+unfolding bytes_after
+untouched before n b e = rw (ne_eqb n 0 e)
 
 -- a call whose result is x: what it answers, and the board that it hands back
 module _

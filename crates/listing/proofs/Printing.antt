@@ -9,7 +9,7 @@ use native.Mathlib.Omega.{arith}
 use lib.Dec.{ltb, eqb}
 use lib.ListN.{length, take}
 use lib.Seq.{sets, length-sets, length-take-le, take_all, take-append_seam}
-use borrow.Author.Tests.{ltb-false, le-ltb, le-leb, ne_eqb}
+use borrow.Author.Tests.{ltb-false, lt-ltb, le-ltb, le-leb, lt-leb, ne_eqb}
 use Rattle.records.specs.Laws.Tests.{by_test}
 use Rattle.records.specs.Meaning.Limits.{max_states}
 use Rattle.records.specs.Laws.Lists.{sets_front}
@@ -41,7 +41,7 @@ use Rattle.plan.specs.Laws.Reaching.{guard_fits}
 use Rattle.plan.specs.Laws.Solved.{sheet_horizon}
 use Rattle.guard.specs.Laws.Running.{table_loads}
 use Rattle.plan.specs.Laws.Answered.{length-guard}
-use Rattle.listing_text.specs.Meaning.Listing.{listing_of, refused_text}
+use Rattle.listing_text.specs.Meaning.Listing.{listing_of, refused_text, too_long_text}
 use Rattle.report.specs.Promises.Report.{Writes, text_length, outcome_due, outcome_text, listed_length}
 use Rattle.report.specs.Laws.ListingAnswers.{writes_fits, outcome_most}
 use Rattle.report.specs.declared.Listed.{Listed}
@@ -218,6 +218,13 @@ prints_guard s h p =
       tells = λ _. rw e p.tells;
     }
 
+prints_long : (s : List ℕ) {before : List ℕ} {r : ℕ} {after : List ℕ} → sheet_most < length s → Prints too_long_text before r after
+    → PrintsSheet s before r after
+unfolding printed
+prints_long s h p =
+    let e = lt-leb (length s) sheet_most h in
+    record { prints = rw e p; too_long = λ _. rw e; tells = λ l. absurd (omega arith) }
+
 -- ---- by how much was read
 
 -- where the end was seen, the input is what was read
@@ -243,4 +250,13 @@ cut_read memory {size} before h room e =
     record {
       prints = rw (le-ltb sheet_most size h, e) record { size = refl; bytes = refl; inside = omega arith };
       whole = λ w read. ⊎_elim (λ seen. absurd (false≢true (sym e ∙ seen))) (λ full. absurd (omega arith));
+    }
+
+pub long_read : (memory : List ℕ) {size : ℕ} {ended : Bool} {before : List ℕ} {r : ℕ} {after : List ℕ} → sheet_most < size
+    → Prints too_long_text before r after → PrintsRead memory size ended before r after
+unfolding read_text
+long_read memory {size} h p =
+    record {
+      prints = rw (lt-ltb sheet_most size h) p;
+      whole = λ w read _. prints_long w (omega (arith, read.held)) p;
     }
