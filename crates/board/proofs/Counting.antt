@@ -8,18 +8,15 @@ use Prim.Native.Nat.{ℕ}
 use lib.Dec.{eqb}
 use Rattle.records.specs.Laws.Tests.{both_ways, by_test}
 use Rattle.game.specs.Meaning.Book.{Call, load, step, rewind, unload, Answer}
-use Rattle.board.specs.Meaning.Board.{live, empty_board, run_at}
+use Rattle.board.specs.Meaning.Board.{live, empty_board, run_at, Changing}
 use Rattle.guard_table.specs.Meaning.GuardTable.{output_in, next_in}
 use Rattle.guard_table.specs.Meaning.Loadable.{loadable}
-use Rattle.board.specs.Meaning.Load.{board_of}
-use Rattle.board.specs.Meaning.BoardStep.{board_moved}
+use Rattle.board.specs.Meaning.Load.{board_of, Loading}
+use Rattle.board.specs.Meaning.BoardStep.{board_moved, Stepping}
 use Rattle.board.specs.Meaning.Calls.{load_says, step_says, change_says, board_after, says}
 use Rattle.board.specs.Meaning.Deviations.{Event, last, history, Counts, KeepsCount}
 use Rattle.board.specs.Laws.Calls.{empty_board_lem, load_empty, load_bad, step_empty, rewind_empty, unload_empty, load_occupied, rewind_live, unload_live, step_case, refused, taken}
 use Rattle.board.specs.declared.Board.{Board}
-use Rattle.board.specs.declared.answers.Loading.{Loading}
-use Rattle.board.specs.declared.answers.Stepping.{Stepping}
-use Rattle.board.specs.declared.answers.Changing.{Changing}
 
 -- an event more
 abbrev with : List Event → Call (List ℕ) → Answer → List Event

@@ -7,19 +7,16 @@ use Prim.Native.Nat.{ℕ, ◌^◌}
 use lib.Dec.{leb, ltb, eqb}
 use Rattle.records.specs.Laws.Tests.{by_test}
 use Rattle.records.specs.Meaning.Limits.{max_steps}
-use Rattle.board.specs.Meaning.Board.{live, empty_board, rewind_on, unload_on, change_number, change_refusal}
+use Rattle.board.specs.Meaning.Board.{live, empty_board, Changing, rewind_on, unload_on, change_number, change_refusal}
 use Rattle.guard_table.specs.Meaning.GuardTable.{output_in}
 use Rattle.guard_table.specs.Meaning.Loadable.{loadable}
-use Rattle.board.specs.Meaning.Load.{load_on, load_number, load_refusal}
-use Rattle.board.specs.Meaning.BoardStep.{entry_fits, board_moved, looked_up, step_on, step_number, step_output, step_refusal, step_given}
+use Rattle.board.specs.Meaning.Load.{Loading, load_on, load_number, load_refusal}
+use Rattle.board.specs.Meaning.BoardStep.{Stepping, entry_fits, board_moved, looked_up, step_on, step_number, step_output, step_refusal, step_given}
 use Rattle.game.specs.Meaning.Book.{load, step, rewind, unload}
 use Rattle.board.specs.Laws.Calls.{empty_board_lem}
 use Rattle.board.proofs.Counting.{counted, keeps-count}
 use Rattle.board.specs.Promises.Board.{EmptyPromise, LoadPromise, StepPromise, RewindPromise, UnloadPromise}
 use Rattle.board.specs.declared.Board.{Board}
-use Rattle.board.specs.declared.answers.Loading.{Loading}
-use Rattle.board.specs.declared.answers.Stepping.{Stepping}
-use Rattle.board.specs.declared.answers.Changing.{Changing}
 
 pub empty_promise : (r : Board) → r ≡ empty_board → EmptyPromise r
 empty_promise r e = record { whole = e; counted = rw e (counted empty_board empty_board_lem) }

@@ -2,3 +2,4 @@
 pub mod Calls
 pub mod LiveFacts
 pub mod BoardOnTable
+pub mod Numbers

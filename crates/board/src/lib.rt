@@ -2,8 +2,7 @@
 // A call takes the board and hands it back with its answer; a refused call hands back the same board, field by field.
 #![tactic(auto)]
 
-ghost use Rattle.std.specs.Prelude.{◌≡◌, true, ◌-◌, ◌^◌, ◌<◌, ◌≤◌, length};
-ghost use Rattle.records.specs.Meaning.Limits.{lines_ok};
+ghost use Rattle.std.specs.Prelude.{◌≡◌, true, Err, ◌-◌, ◌^◌, ◌<◌, ◌≤◌, length};
 ghost use Rattle.guard_table.specs.Meaning.GuardTable.{head_length};
 ghost use Rattle.board.specs.Meaning.Board.{counts_ok, live, run_at};
 ghost use Rattle.board.specs.Meaning.Load.{board_of};
@@ -11,9 +10,9 @@ ghost use Rattle.game.specs.Meaning.Proposal.{deviates};
 ghost use Rattle.board.specs.Meaning.BoardStep.{board_moved, length_fits, looked_up};
 ghost use Rattle.board.specs.Promises.Board.{EmptyPromise, LoadPromise, StepPromise, RewindPromise, UnloadPromise};
 
-use crate::answers::{Change, Changing, Load, Loading, Step, Stepping};
+use crate::answers::{Answered, ChangeRefusal, LoadRefusal, StepRefusal};
 use guard_table::entry::{entry_in, entry_ok};
-use guard_table::kind::{kind_of, shows_kind};
+use guard_table::kind::shown_kind;
 use guard_table::layout::Layout;
 use guard_table::loadable::is_loadable;
 use records::limits::{Limits, lines_ok};
@@ -21,6 +20,8 @@ use records::numbers::{pow2, u16_at};
 
 pub mod answers;
 
+// The fields are plain, a flag and numbers of any value: callers lend boards that count as empty whatever their fields hold, and a
+// refused call hands back the same.
 #[derive(Clone, Copy)]
 pub struct Board {
     pub loaded: bool,
@@ -37,41 +38,8 @@ pub struct Board {
     pub deviations: u32,
 }
 
-// Whether count, place, steps and deviations are in range.
-fn counts_ok(mode: u8, count: u16, place: u16, steps: u32, deviations: u32) -> bool
-    ensures { result ≡ counts_ok mode count place steps deviations }
-{
-    if count < 1 {
-        return false;
-    }
-    if Limits::STATES < count as usize {
-        return false;
-    }
-    if count <= place {
-        return false;
-    }
-    if Board::STEP_LIMIT < steps {
-        return false;
-    }
-    if steps < deviations {
-        return false;
-    }
-    mode == 1 || deviations == 0
-}
-
-// Whether, in mode 1, the output is not what the input proposes.
-fn deviates(mode: u8, inputs: u8, outputs: u8, input: u8, output: u8) -> bool
-    requires { lines_ok mode inputs outputs ≡ true }
-    ensures { result ≡ deviates mode (inputs - outputs) input output }
-{
-    if mode == 1 {
-        let proposal = (input as usize) / pow2(inputs - outputs);
-        return output as usize != proposal;
-    }
-    false
-}
-
 // The board that a table gives: its head's mode, lines and count, at the start of a run.
+#[tactic(auto, unfolding(crate::specs::Meaning::Load::board_of))]
 fn board_of(t: &[u8]) -> Board
     requires { head_length ≤ length t.now }
     ensures { result ≡ board_of t.now }
@@ -108,127 +76,180 @@ impl Board {
         }
     }
 
+    // Whether count, place, steps and deviations are in range.
+    #[tactic(auto, using(records::specs::Laws::Tests::cases), unfolding(crate::specs::Meaning::Board::counts_ok))]
+    fn counts_ok(self) -> bool
+        ensures { result ≡ counts_ok self.mode self.count self.place self.steps self.deviations }
+    {
+        if self.count < 1 {
+            return false;
+        }
+        if Limits::STATES < self.count as usize {
+            return false;
+        }
+        if self.count <= self.place {
+            return false;
+        }
+        if Board::STEP_LIMIT < self.steps {
+            return false;
+        }
+        if self.steps < self.deviations {
+            return false;
+        }
+        self.mode == 1 || self.deviations == 0
+    }
+
     // Whether the board is loaded with every field in its range; any other board counts as empty.
     fn is_live(self) -> bool
         ensures { result ≡ live self }
     {
-        if self.loaded {
-            if lines_ok(self.mode, self.inputs, self.outputs) {
-                return counts_ok(
-                    self.mode,
-                    self.count,
-                    self.place,
-                    self.steps,
-                    self.deviations,
-                );
-            }
+        self.loaded && lines_ok(self.mode, self.inputs, self.outputs) && self.counts_ok()
+    }
+
+    // The same board, with a refusal.
+    fn refused<T, E>(self, refusal: E) -> Answered<Result<T, E>>
+        ensures { result ≡ record { board = self; answer = Err refusal } }
+    {
+        Answered {
+            board: self,
+            answer: Err(refusal),
+        }
+    }
+
+    // Loads a table into a board that counts as empty. Refuses 21, 11.
+    pub fn load(self, table: &[u8]) -> Answered<Result<(), LoadRefusal>>
+        ensures { LoadPromise self table.now result }
+    {
+        if self.is_live() {
+            return self.refused(LoadRefusal::Occupied);
+        }
+        if !is_loadable(table) {
+            return self.refused(LoadRefusal::BadTable);
+        }
+        Answered {
+            board: board_of(table),
+            answer: Ok(()),
+        }
+    }
+
+    // Answers an input by the table's entry at the board's place. Refuses 20, 22, 12, 11.
+    pub fn step(self, table: &[u8], input: u8) -> Answered<Result<u8, StepRefusal>>
+        ensures { StepPromise self table.now input result }
+    {
+        if !self.is_live() {
+            return self.refused(StepRefusal::Empty);
+        }
+        if Board::STEP_LIMIT <= self.steps {
+            return self.refused(StepRefusal::Spent);
+        }
+        if pow2(self.inputs) <= input as usize {
+            return self.refused(StepRefusal::BadInput);
+        }
+        let running = LiveBoard { board: self };
+        running.look_up(table, input)
+    }
+
+    // Begins the run of the loaded table anew. Refuses 20.
+    pub fn rewind(self) -> Answered<Result<(), ChangeRefusal>>
+        ensures { RewindPromise self result }
+    {
+        if !self.is_live() {
+            return self.refused(ChangeRefusal::Empty);
+        }
+        Answered {
+            board: self.run_at(0, 0, 0),
+            answer: Ok(()),
+        }
+    }
+
+    // Empties the board. Refuses 20.
+    pub fn unload(self) -> Answered<Result<(), ChangeRefusal>>
+        ensures { UnloadPromise self result }
+    {
+        if !self.is_live() {
+            return self.refused(ChangeRefusal::Empty);
+        }
+        Answered {
+            board: Board::empty(),
+            answer: Ok(()),
+        }
+    }
+
+    // The board with its table's run at another point.
+    #[tactic(auto, unfolding(crate::specs::Meaning::Board::run_at))]
+    fn run_at(self, place: u16, steps: u32, deviations: u32) -> Board
+        ensures { result ≡ run_at self place steps deviations }
+    {
+        Board {
+            place,
+            steps,
+            deviations,
+            ..self
+        }
+    }
+}
+
+// A board that is loaded with every field in its range.
+#[derive(Clone, Copy)]
+struct LiveBoard {
+    board: Board,
+    ghost live: { live board ≡ true },
+}
+
+impl LiveBoard {
+    // Whether, in mode 1, the output is not what the input proposes.
+    fn deviates(self, input: u8, output: u8) -> bool
+        ensures { result ≡ deviates self.board.mode (self.board.inputs - self.board.outputs) input output }
+    {
+        if self.board.mode == 1 {
+            let proposal = (input as usize) / pow2(self.board.inputs - self.board.outputs);
+            return output as usize != proposal;
         }
         false
     }
 
-    // Loads a table into a board that counts as empty. Refuses 21, 11.
-    pub fn load(self, table: &[u8]) -> Loading
-        ensures { LoadPromise self table.now result }
-    {
-        if self.is_live() {
-            return Loading::of(self, Load::Occupied);
-        }
-        if is_loadable(table) {
-            return Loading::of(board_of(table), Load::Loaded);
-        }
-        Loading::of(self, Load::BadTable)
-    }
-
-    // Answers an input by the table's entry at the board's place. Refuses 20, 22, 12, 11.
-    pub fn step(self, table: &[u8], input: u8) -> Stepping
-        ensures { StepPromise self table.now input result }
-    {
-        if !self.is_live() {
-            return Stepping::of(self, Step::Empty);
-        }
-        if Board::STEP_LIMIT <= self.steps {
-            return Stepping::of(self, Step::Spent);
-        }
-        if pow2(self.inputs) <= input as usize {
-            return Stepping::of(self, Step::BadInput);
-        }
-        self.look_up(table, input)
-    }
-
     // Whether the slice shows the kind of its rows, and is as long as the board's table in such rows.
     fn length_fits(self, table: &[u8]) -> bool
-        requires { live self ≡ true }
-        ensures { result ≡ length_fits self table.now }
+        ensures { result ≡ length_fits self.board table.now }
     {
-        if !shows_kind(table) {
-            return false;
+        match shown_kind(table) {
+            Some(kind) => {
+                let layout = Layout {
+                    inputs: self.board.inputs,
+                    kind,
+                };
+                let count = self.board.count as usize;
+                table.len() == layout.table_length(count)
+            }
+            None => false,
         }
-        let count = self.count as usize;
-        let layout = Layout {
-            inputs: self.inputs,
-            kind: kind_of(table),
-        };
-        table.len() == layout.table_length(count)
     }
 
-    // The step of a live board at an input below 2^inputs: the slice's length, the kind of its first row and one entry are looked at.
-    fn look_up(self, table: &[u8], input: u8) -> Stepping
-        requires { (live self ≡ true) × (input < 2 ^ self.inputs) }
-        ensures { result ≡ looked_up self table.now input }
+    // The step at an input below 2^inputs: the slice's length, the kind of its first row and one entry are looked at.
+    fn look_up(self, table: &[u8], input: u8) -> Answered<Result<u8, StepRefusal>>
+        requires { input < 2 ^ self.board.inputs }
+        ensures { result ≡ looked_up self.board table.now input }
     {
+        let board = self.board;
         if !self.length_fits(table) {
-            return Stepping::of(self, Step::BadTable);
+            return board.refused(StepRefusal::BadTable);
         }
-        let entry = entry_in(table, self.inputs, self.place as usize, input as usize);
-        if entry_ok(entry, self.outputs, self.count as usize) {
-            return self.moved(input, entry.output, entry.next);
+        let entry = entry_in(table, board.inputs, board.place as usize, input as usize);
+        if !entry_ok(entry, board.outputs, board.count as usize) {
+            return board.refused(StepRefusal::BadTable);
         }
-        Stepping::of(self, Step::BadTable)
+        self.moved(input, entry.output, entry.next)
     }
 
-    // The step of a live board to a next state, with its output.
-    fn moved(self, input: u8, output: u8, next: u16) -> Stepping
-        requires { live self ≡ true }
-        ensures { result ≡ board_moved self input output next }
+    // The step to a next state, with its output.
+    fn moved(self, input: u8, output: u8, next: u16) -> Answered<Result<u8, StepRefusal>>
+        ensures { result ≡ board_moved self.board input output next }
     {
-        let mut deviations = self.deviations;
-        if deviates(self.mode, self.inputs, self.outputs, input, output) {
-            deviations += 1;
+        let board = self.board;
+        let more = self.deviates(input, output) as u32;
+        Answered {
+            board: board.run_at(next, board.steps + 1, board.deviations + more),
+            answer: Ok(output),
         }
-        Stepping::of(
-            self.run_at(next, self.steps + 1, deviations),
-            Step::Output(output),
-        )
-    }
-
-    // Begins the run of the loaded table anew. Refuses 20.
-    pub fn rewind(self) -> Changing
-        ensures { RewindPromise self result }
-    {
-        if self.is_live() {
-            return Changing::of(self.run_at(0, 0, 0), Change::Done);
-        }
-        Changing::of(self, Change::Empty)
-    }
-
-    // Empties the board. Refuses 20.
-    pub fn unload(self) -> Changing
-        ensures { UnloadPromise self result }
-    {
-        if self.is_live() {
-            return Changing::of(Board::empty(), Change::Done);
-        }
-        Changing::of(self, Change::Empty)
-    }
-
-    // The board with its table's run at another point.
-    fn run_at(self, place: u16, steps: u32, deviations: u32) -> Board
-        ensures { result ≡ run_at self place steps deviations }
-    {
-        let mut board = self;
-        board.place = place;
-        board.steps = steps;
-        board.deviations = deviations;
-        board
     }
 }

@@ -8,11 +8,12 @@ use board::Board;
 use records::numbers::{put_u16, u16_at};
 
 // The four-byte number at an index.
+#[tactic(auto, unfolding(crate::specs::Meaning::BoardBytes::u32_at, records::specs::Meaning::Numbers::u16_at))]
 pub fn u32_at(s: &[u8], at: usize) -> u32
     requires { at + 4 ≤ length s.now }
     ensures { result ≡ u32_at s.now at }
 {
-    (u16_at(s, at) as u32) + 65536 * (u16_at(s, at + 2) as u32)
+    u32::from_le_bytes([s[at], s[at + 1], s[at + 2], s[at + 3]])
 }
 
 // Writes a four-byte number at an index.
@@ -20,8 +21,11 @@ pub fn put_u32(out: &mut [u8], at: usize, value: u32)
     requires { at + 4 ≤ length out.old }
     ensures { out.new ≡ sets out.old at (u32_bytes value) }
 {
-    put_u16(out, at, (value % 65536) as u16);
-    put_u16(out, at + 2, (value / 65536) as u16);
+    let [first, second, third, fourth] = value.to_le_bytes();
+    out[at] = first;
+    out[at + 1] = second;
+    out[at + 2] = third;
+    out[at + 3] = fourth;
 }
 
 // The board that the bytes stand for.
@@ -41,21 +45,21 @@ pub fn board_in(s: &[u8; BoardBytes::LENGTH]) -> Board
 }
 
 // Writes the fields of one byte.
-fn put_first(out: &mut [u8], loaded: bool, mode: u8, inputs: u8, outputs: u8)
+fn put_first(out: &mut [u8], board: Board)
     requires { 4 ≤ length out.old }
-    ensures { out.new ≡ sets out.old 0 (cond loaded 1 0 ∷ mode ∷ inputs ∷ outputs ∷ []) }
+    ensures { out.new ≡ sets out.old 0 (cond board.loaded 1 0 ∷ board.mode ∷ board.inputs ∷ board.outputs ∷ []) }
 {
-    out[0] = loaded as u8;
-    out[1] = mode;
-    out[2] = inputs;
-    out[3] = outputs;
+    out[0] = board.loaded as u8;
+    out[1] = board.mode;
+    out[2] = board.inputs;
+    out[3] = board.outputs;
 }
 
 // Writes a board's bytes.
 pub fn put_board(out: &mut [u8; BoardBytes::LENGTH], board: Board)
     ensures { out.new ≡ board_bytes board }
 {
-    put_first(out, board.loaded, board.mode, board.inputs, board.outputs);
+    put_first(out, board);
     put_u16(out, 4, board.count);
     put_u16(out, 6, board.place);
     put_u32(out, 8, board.steps);

@@ -2,12 +2,13 @@
 #![tactic(auto)]
 
 ghost use Rattle.std.specs.Prelude.{◌≡◌};
+ghost use Rattle.records.specs.Meaning.Answers.{number_in};
 ghost use Rattle.board_bytes.specs.Meaning.ByteCalls.{bytes_after};
 ghost use Rattle.board_bytes.specs.Promises.ByteCalls.{LoadCall, StepCall, RewindCall, UnloadCall};
 
 use crate::layout::{board_in, put_board};
-use crate::numbers::{change_number, load_number, step_answer, step_number};
-use board::Board;
+use board::answers::Answered;
+use records::numbered::Numbered;
 
 mod layout;
 pub mod numbers;
@@ -21,13 +22,25 @@ impl BoardBytes {
     pub const LENGTH: usize = 16;
 }
 
-// Writes the board that a call hands back, where the call was not refused.
+// Reports what a call on the board answered, and writes the board that it hands back where it was not refused.
 #[tactic(auto, unfolding(crate::specs::Meaning::ByteCalls::bytes_after))]
-fn hand_back(board: &mut [u8; BoardBytes::LENGTH], number: u32, after: Board)
-    ensures { board.new ≡ bytes_after board.old number after }
+fn hand_back<T: Drop, E: Numbered>(
+    board: &mut [u8; BoardBytes::LENGTH],
+    answered: Answered<Result<T, E>>,
+) -> u32
+    ensures number { result ≡ number_in E.number_of answered.answer }
+    ensures bytes { board.new ≡ bytes_after board.old (number_in E.number_of answered.answer) answered.board }
 {
-    if number == 0 {
-        put_board(board, after);
+    let Answered {
+        board: after,
+        answer,
+    } = answered;
+    match answer {
+        Ok(_) => {
+            put_board(board, after);
+            0
+        }
+        Err(cause) => cause.number() as u32,
     }
 }
 
@@ -36,11 +49,7 @@ pub fn load(board: &mut [u8; BoardBytes::LENGTH], table: &[u8]) -> u32
     ensures { LoadCall board.old table.now result board.new }
 {
     let loading = board_in(board).load(table);
-    let after = loading.board;
-    let answer = loading.answer;
-    let number = load_number(answer);
-    hand_back(board, number, after);
-    number
+    hand_back(board, loading)
 }
 
 // Answers an input: the number, and 65,536 times the output.
@@ -48,32 +57,23 @@ pub fn step(board: &mut [u8; BoardBytes::LENGTH], table: &[u8], input: u8) -> u3
     ensures { StepCall board.old table.now input result board.new }
 {
     let stepping = board_in(board).step(table, input);
-    let after = stepping.board;
-    let answer = stepping.answer;
-    hand_back(board, step_number(answer), after);
-    step_answer(answer)
+    let output = stepping.answer.unwrap_or(0);
+    let number = hand_back(board, stepping);
+    number + 65536 * (output as u32)
 }
 
 // Begins the run anew.
 pub fn rewind(board: &mut [u8; BoardBytes::LENGTH]) -> u32
     ensures { RewindCall board.old result board.new }
 {
-    let changing = board_in(board).rewind();
-    let after = changing.board;
-    let answer = changing.answer;
-    let number = change_number(answer);
-    hand_back(board, number, after);
-    number
+    let rewinding = board_in(board).rewind();
+    hand_back(board, rewinding)
 }
 
 // Empties the board.
 pub fn unload(board: &mut [u8; BoardBytes::LENGTH]) -> u32
     ensures { UnloadCall board.old result board.new }
 {
-    let changing = board_in(board).unload();
-    let after = changing.board;
-    let answer = changing.answer;
-    let number = change_number(answer);
-    hand_back(board, number, after);
-    number
+    let unloading = board_in(board).unload();
+    hand_back(board, unloading)
 }

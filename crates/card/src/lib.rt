@@ -14,27 +14,23 @@ pub struct Averages {
     pub least: f64,
 }
 
-// What the card says of a product state.
+// What the card says of a product state. No Option: the project's papers fix this enum of two cases, and the struct above.
 #[derive(Clone, Copy)]
 pub enum Prospect {
     Lost,
     Worth(Averages),
 }
 
-// A place on the card: an array of enums has no proof support as a field, one of structs that hold an enum has.
-#[derive(Clone, Copy)]
-pub struct Entry {
-    pub prospect: Prospect,
-}
-
 // The number of product states, and an entry for each in number order; entries past the count are lost.
+// An array with its count: memory is fixed, there is no heap, and C is handed all entries.
 #[derive(Clone, Copy)]
 pub struct Card {
     pub count: usize,
-    pub entries: [Entry; Limits::STATES],
+    pub entries: [Prospect; Limits::STATES],
 }
 
 // The averages of two sums over a number of words.
+#[tactic(auto, unfolding(crate::specs::Model::Card::averages_of))]
 pub fn averaged(best: u64, least: u64, words: u64) -> Averages
     requires { Summed best least words }
     ensures { result ≡ averages_of best least words }
@@ -46,28 +42,26 @@ pub fn averaged(best: u64, least: u64, words: u64) -> Averages
 }
 
 // The entry of a state: lost unless the round that dropped it is 0, which is none.
-pub fn entry_at(round: u16, best: u64, least: u64, words: u64) -> Entry
+#[tactic(auto, unfolding(crate::specs::Model::Card::card_entry))]
+pub fn entry_at(round: u16, best: u64, least: u64, words: u64) -> Prospect
     requires { Summed best least words }
     ensures { result ≡ card_entry round best least words }
 {
-    let mut prospect = Prospect::Lost;
-    if round == 0 {
-        let worth = averaged(best, least, words);
-        prospect = Prospect::Worth(worth);
+    if round != 0 {
+        return Prospect::Lost;
     }
-    Entry { prospect }
+    Prospect::Worth(averaged(best, least, words))
 }
 
 impl Card {
     // No state, every entry lost.
+    #[tactic(auto, unfolding(crate::specs::Model::Card::lost_entries, crate::specs::Model::Card::lost_card))]
     pub fn lost() -> Card
         ensures { result ≡ lost_card }
     {
         Card {
             count: 0,
-            entries: [Entry {
-                prospect: Prospect::Lost,
-            }; Limits::STATES],
+            entries: [Prospect::Lost; Limits::STATES],
         }
     }
 
@@ -77,11 +71,9 @@ impl Card {
         ensures { result ≡ card_of dropped.now bests.now leasts.now words n }
     {
         let mut card = Card::lost();
-        let mut s: usize = 0;
-        while s < n {
-            let entry = entry_at(dropped[s], bests[s], leasts[s], words);
-            card.entries[s] = entry;
-            s += 1;
+        // By index: the three slices are work memory that the C interface lends apart.
+        for s in 0..n {
+            card.entries[s] = entry_at(dropped[s], bests[s], leasts[s], words);
         }
         card.count = n;
         card

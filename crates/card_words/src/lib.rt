@@ -6,7 +6,7 @@ ghost use Rattle.std.proofs.lemmas.List.Edits.{sets};
 ghost use Rattle.card_words.specs.Meaning.CardWords.{card_length, entry_words, card_words};
 ghost use Rattle.card_words.specs.Model.CardNumbers.{Number, AllNumbers};
 
-use card::{Card, Entry, Prospect};
+use card::{Card, Prospect};
 use records::limits::Limits;
 
 // A card's words: its count, then two for each entry.
@@ -22,40 +22,39 @@ impl CardWords {
 }
 
 // Writes the words of an entry at an index: the bits of its best average, then of its least.
-fn put_entry(words: &mut [u64], at: usize, entry: Entry)
+#[tactic(auto, unfolding(crate::specs::Meaning::CardWords::entry_words))]
+fn put_entry(words: &mut [u64], at: usize, prospect: Prospect)
     requires at_in_bounds { at + 2 ≤ length words.old }
-    requires number { Number entry.prospect }
-    ensures { words.new ≡ sets words.old at (entry_words entry) }
+    requires number { Number prospect }
+    ensures { words.new ≡ sets words.old at (entry_words prospect) }
 {
-    let prospect = entry.prospect;
     match prospect {
         Prospect::Lost => {
             words[at] = CardWords::LOST;
             words[at + 1] = CardWords::LOST;
         }
         Prospect::Worth(averages) => {
-            words[at] = f64::to_bits(averages.best);
-            words[at + 1] = f64::to_bits(averages.least);
+            words[at] = averages.best.to_bits();
+            words[at + 1] = averages.least.to_bits();
         }
     }
 }
 
 // Writes the words of a card. What stood after them stays.
+#[tactic(auto, using(records::specs::Laws::Stores::no_block, records::specs::Laws::Stores::same_blocks, records::specs::Laws::Stores::all_blocks), unfolding(crate::specs::Meaning::CardWords::card_words))]
 fn put_card(words: &mut [u64], card: Card)
     requires card_length_in_bounds { card_length ≤ length words.old }
     requires all_numbers { AllNumbers card.entries }
     ensures { words.new ≡ sets words.old 0 (card_words card) }
 {
     words[0] = card.count as u64;
-    let mut s: usize = 0;
-    while s < Limits::STATES {
-        let entry = card.entries[s];
-        put_entry(words, 1 + s * 2, entry);
-        s += 1;
+    for (s, prospect) in card.entries.iter().enumerate() {
+        put_entry(words, 1 + s * 2, *prospect);
     }
 }
 
 // The card in words.
+#[tactic(auto, using(crate::specs::Laws::CardWords::card_fills))]
 pub fn write_card(card: Card, words: &mut [u64; CardWords::LENGTH])
     requires { AllNumbers card.entries }
     ensures { words.new ≡ card_words card }

@@ -6,6 +6,7 @@ use mathlib.Core.Bool.{Bool, true, false}
 use mathlib.Core.List.{List}
 use Prim.Native.Nat.{ℕ, ◌^◌, ◌≤◌, ◌<◌}
 use native.Mathlib.Omega.{arith}
+use Rattle.std.specs.Prelude.{Ok, Err}
 use lib.ListN.{length, get_or}
 use lib.Seq.{sets}
 use borrow.Author.Tests.{le-leb, lt-leb}
@@ -15,7 +16,6 @@ use Rattle.records.specs.Laws.Lists.{cat_ext}
 use Rattle.sheet.specs.Meaning.Decoded.{Decoded}
 use Rattle.sheet.specs.Meaning.Grounds.{ground_number}
 use Rattle.sheet.specs.Model.Where.{decoded}
-use Rattle.sheet.specs.declared.layout.Sheet.{Sheet}
 use Rattle.sheet.specs.declared.layout.Refusal.{Refusal}
 use Rattle.sheet.specs.declared.layout.Refusal.TheVariants.{ShortResult}
 use Rattle.product.specs.Meaning.Step.{inputs_of, outputs_of}
@@ -33,11 +33,12 @@ use Rattle.solve.specs.Laws.OrderedNumber.{refused-off, ordered_refused, solved_
 use Rattle.forced.specs.Laws.Shown.{forcing_low}
 use Rattle.forced.specs.Model.ForcedOfSheet.{forced_of, forced_size, held_number, Plays}
 use Rattle.forced.specs.declared.answer.Ground.TheVariants as ground
-use Rattle.forced.specs.declared.answer.Forced.TheVariants.{Play, Refused}
+use Rattle.solve.specs.declared.made.Made.{Made}
+use Rattle.solve.specs.declared.solving.Solved.{Solved}
 
 module _ {ok : Bool} {s : List ℕ} (before : List ℕ) where
   -- solving refuses
-  pub plays-refused : (g : Refusal) → ground_number g ≡ solving_number ok s → Plays ok s before (Refused (ground.Sheet g)) before
+  pub plays-refused : (g : Refusal) → ground_number g ≡ solving_number ok s → Plays ok s before (Err (ground.Sheet g)) before
   plays-refused g e =
       record {
         number = ordered_refused held_number forced_size ok s (length before) g e;
@@ -46,89 +47,87 @@ module _ {ok : Bool} {s : List ℕ} (before : List ℕ) where
         bytes = rw (refused-off g);
       }
 
-  module _
-      {sheet : Sheet} {n kept : ℕ} {start : Bool} {tuples cells dropped : List ℕ}
-      (solved : SolvedSheet ok s sheet n kept start tuples cells dropped)
-    where
-      counted : n ≡ state_count (sheet_of s)
-      counted = solved.solution.numbering.counted ∙ ap state_count solved.same
+  module _ {r : Solved} {tuples cells dropped : List ℕ} (solved : SolvedSheet ok s r tuples cells dropped) where
+    counted : r.states ≡ state_count (sheet_of s)
+    counted = solved.solution.numbering.counted ∙ ap state_count solved.same
 
-      -- the start is kept
-      pub plays-held : start ≡ true → Plays ok s before (Refused ground.Realizable) before
-      unfolding held_number
-      plays-held e =
+    -- the start is kept
+    pub plays-held : r.start ≡ true → Plays ok s before (Err ground.Realizable) before
+    unfolding held_number
+    plays-held e =
+        record {
+          number = sym (solved_past solved held_number forced_size (length before) ∙ rw (solved_start solved ∙ e));
+          size = refl;
+          states = refl;
+          bytes = refl;
+        }
+
+    -- what solving leaves gives the inputs and the rows of the sheet's answer
+    module _ {ins outs : ℕ} (is-inputs : ins ≡ 2 ^ r.sheet.inputs) (is-outputs : outs ≡ 2 ^ r.sheet.outputs) (room : r.states ≤ length dropped)
+      where
+        abbrev d : Decoded
+        d = decoded s r.sheet
+
+        ins_are : ins ≡ inputs_of d
+        ins_are = is-inputs ∙ layout_inputs solved.fits
+
+        outs_are : outs ≡ outputs_of d
+        outs_are = is-outputs ∙ layout_outputs s r.sheet
+
+        fits : state_count d ≤ max_states
+        fits = numbering_fits solved.solution.numbering
+
+        same_entries : (q : ℕ) → q < state_count d → get_or (dropped_of d) q 0 ≡ get_or dropped q 0
+        same_entries q h = sym (solved.solution.rounds q (omega (arith, solved.solution.numbering.counted)))
+
+        pub input_inside : (k : ℕ) → k < r.states → forcing_input cells dropped ins outs k < ins
+        input_inside k h =
+            let numbering = solved.solution.numbering in
+            rw (
+              ins_are,
+              outs_are,
+              ← forcing_agree (sheet_steps d fits) cells (cells_agree numbering) (dropped_of d) dropped same_entries
+                  (omega (arith, length_dropped d)) (omega (arith, numbering.counted)) k (omega (arith, numbering.counted)),
+            )
+            (forcing_low d fits k (omega (arith, numbering.counted)))
+
+        rows : cat r.states (forced_row cells dropped ins outs) ≡ forced_of d
+        unfolding forced_of
+        rows =
+            let numbering = solved.solution.numbering in
+            rw (ins_are, outs_are, numbering.counted)
+            (cat_ext (state_count d) _ _ (λ k u.
+            sym (forced_agree (sheet_steps d fits) cells (cells_agree numbering) (dropped_of d) dropped same_entries
+            (omega (arith, length_dropped d)) (omega (arith, numbering.counted)) k u (forcing_low d fits k u))))
+
+    module _ (lost : r.start ≡ false) {outs size : ℕ} (is-outputs : outs ≡ 2 ^ r.sheet.outputs) (sized : size ≡ forced_length outs r.states) where
+      size_is : size ≡ forced_size (sheet_of s)
+      unfolding forced_size
+      size_is =
+          sized ∙ ap₂ forced_length (is-outputs ∙ layout_outputs s r.sheet ∙ ap outputs_of solved.same) counted
+
+      -- the result is too short
+      pub plays_short : length before < size → Plays ok s before (Err (ground.Sheet ShortResult)) before
+      unfolding held_number room_number
+      plays_short h =
           record {
-            number = sym (solved_past solved held_number forced_size (length before) ∙ rw (solved_start solved ∙ e));
+            number = sym (solved_past solved held_number forced_size (length before)
+                ∙ rw (solved_start solved ∙ lost, ← size_is, lt-leb size (length before) h));
             size = refl;
             states = refl;
             bytes = refl;
           }
 
-      -- what solving leaves gives the inputs and the rows of the sheet's answer
-      module _ {ins outs : ℕ} (is-inputs : ins ≡ 2 ^ sheet.inputs) (is-outputs : outs ≡ 2 ^ sheet.outputs) (room : n ≤ length dropped)
-        where
-          abbrev d : Decoded
-          d = decoded s sheet
-
-          ins_are : ins ≡ inputs_of d
-          ins_are = is-inputs ∙ layout_inputs solved.fits
-
-          outs_are : outs ≡ outputs_of d
-          outs_are = is-outputs ∙ layout_outputs s sheet
-
-          fits : state_count d ≤ max_states
-          fits = numbering_fits solved.solution.numbering
-
-          same_entries : (q : ℕ) → q < state_count d → get_or (dropped_of d) q 0 ≡ get_or dropped q 0
-          same_entries q h = sym (solved.solution.rounds q (omega (arith, solved.solution.numbering.counted)))
-
-          pub input_inside : (k : ℕ) → k < n → forcing_input cells dropped ins outs k < ins
-          input_inside k h =
-              let numbering = solved.solution.numbering in
-              rw (
-                ins_are,
-                outs_are,
-                ← forcing_agree (sheet_steps d fits) cells (cells_agree numbering) (dropped_of d) dropped same_entries
-                    (omega (arith, length_dropped d)) (omega (arith, numbering.counted)) k (omega (arith, numbering.counted)),
-              )
-              (forcing_low d fits k (omega (arith, numbering.counted)))
-
-          rows : cat n (forced_row cells dropped ins outs) ≡ forced_of d
-          unfolding forced_of
-          rows =
-              let numbering = solved.solution.numbering in
-              rw (ins_are, outs_are, numbering.counted)
-              (cat_ext (state_count d) _ _ (λ k u.
-              sym (forced_agree (sheet_steps d fits) cells (cells_agree numbering) (dropped_of d) dropped same_entries
-              (omega (arith, length_dropped d)) (omega (arith, numbering.counted)) k u (forcing_low d fits k u))))
-
-      module _ (lost : start ≡ false) {outs size : ℕ} (is-outputs : outs ≡ 2 ^ sheet.outputs) (sized : size ≡ forced_length outs n) where
-        size_is : size ≡ forced_size (sheet_of s)
-        unfolding forced_size
-        size_is =
-            sized ∙ ap₂ forced_length (is-outputs ∙ layout_outputs s sheet ∙ ap outputs_of solved.same) counted
-
-        -- the result is too short
-        pub plays_short : length before < size → Plays ok s before (Refused (ground.Sheet ShortResult)) before
-        unfolding held_number room_number
-        plays_short h =
-            record {
-              number = sym (solved_past solved held_number forced_size (length before)
-                  ∙ rw (solved_start solved ∙ lost, ← size_is, lt-leb size (length before) h));
-              size = refl;
-              states = refl;
-              bytes = refl;
-            }
-
-        -- the rows are written
-        pub plays_written : size ≤ length before → {ins : ℕ} → ins ≡ 2 ^ sheet.inputs → n ≤ length dropped
-            → {after : List ℕ} → after ≡ sets before 0 (cat n (forced_row cells dropped ins outs)) → Plays ok s before (Play size n) after
-        unfolding held_number room_number
-        plays_written h is-inputs room wrote =
-            record {
-              number = sym (solved_past solved held_number forced_size (length before)
-                  ∙ rw (solved_start solved ∙ lost, ← size_is, le-leb size (length before) h));
-              size = size_is;
-              states = counted;
-              bytes = wrote ∙ ap (λ (l : List ℕ). sets before 0 l) (rows is-inputs is-outputs room ∙ ap forced_of solved.same);
-            }
+      -- the rows are written
+      pub plays_written : size ≤ length before → {ins : ℕ} → ins ≡ 2 ^ r.sheet.inputs → r.states ≤ length dropped
+          → {after : List ℕ} → after ≡ sets before 0 (cat r.states (forced_row cells dropped ins outs))
+          → {made : Made} → made.length ≡ size → made.states ≡ r.states → Plays ok s before (Ok made) after
+      unfolding held_number room_number
+      plays_written h is-inputs room wrote length_is states_are =
+          record {
+            number = sym (solved_past solved held_number forced_size (length before)
+                ∙ rw (solved_start solved ∙ lost, ← size_is, le-leb size (length before) h));
+            size = length_is ∙ size_is;
+            states = states_are ∙ counted;
+            bytes = wrote ∙ ap (λ (l : List ℕ). sets before 0 l) (rows is-inputs is-outputs room ∙ ap forced_of solved.same);
+          }

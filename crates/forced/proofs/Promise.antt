@@ -6,6 +6,7 @@ use mathlib.Core.List.{List, ◌++◌}
 use Prim.Native.Nat.{ℕ, ◌+◌, ◌≤◌}
 use native.Mathlib.Nat.{mul-le-mul}
 use native.Mathlib.Omega.{arith}
+use Rattle.std.specs.Prelude.{Result}
 use lib.Dec.{eqb}
 use lib.ListN.{length, take, drop}
 use lib.Seq.{take-append_seam}
@@ -15,7 +16,6 @@ use Rattle.records.specs.Meaning.Numbers.{Bytes}
 use Rattle.records.specs.Meaning.Work.{long_enough, asked_bytes}
 use Rattle.records.specs.Laws.Lists.{sets_front}
 use Rattle.sheet.specs.Meaning.Decoded.{Decoded, HeadOk}
-use Rattle.sheet.specs.Laws.Reading.{only_sheet}
 use Rattle.product.specs.Model.ProductNumbering.{state_count}
 use Rattle.product.specs.Laws.Counts.{outputs_most}
 use Rattle.product.specs.Laws.Outcome.{broken_by}
@@ -26,14 +26,15 @@ use Rattle.solve.specs.Meaning.Allowed.{TooMany, Unrealizable, IsSheet}
 use Rattle.solve.specs.Model.Steps.{cells_of, dropped_of}
 use Rattle.solve.specs.Model.Making.{sheet_of}
 use Rattle.solve.specs.Laws.StateGrounds.{start_in, start_out}
-use Rattle.solve.specs.Laws.RefusalOrder.{few_fit, only_is, Stops, order_else, orders_bytes}
+use Rattle.solve.specs.Laws.RefusalOrder.{few_fit, only_read, only_is, Stops, order_else, orders_bytes}
 use Rattle.solve.specs.Promises.RefusalOrder.{InOrder}
 use Rattle.forced.specs.Meaning.Answer.{play_number, play_length, play_states}
 use Rattle.forced.specs.Meaning.Play.{Realizable}
 use Rattle.forced.specs.Model.ForcedOfSheet.{forced_of, forced_size, held_number, Plays}
 use Rattle.forced.specs.Laws.Shown.{shows}
 use Rattle.forced.specs.Promises.ForcedMaker.{forced_work, ShowsPlay, Played, Unplayed, MakesForced}
-use Rattle.forced.specs.declared.answer.Forced.{Forced}
+use Rattle.solve.specs.declared.made.Made.{Made}
+use Rattle.forced.specs.declared.answer.Ground.{Ground}
 use Rattle.forced.specs.Laws.Only.{only_answer}
 
 -- so many bytes, and never more than these
@@ -46,7 +47,7 @@ unfolding forced_size forced_length
 size_most d head few = mul-le-mul {m₂ = 3 + max_outs} few (omega (arith, outputs_most d head))
 
 module _
-    {s before : List ℕ} {r : Forced} {after : List ℕ} (lent : List ℕ) (plays : Plays (long_enough forced_work lent) s before r after)
+    {s before : List ℕ} {r : Result Made Ground} {after : List ℕ} (lent : List ℕ) (plays : Plays (long_enough forced_work lent) s before r after)
     (same : (d : Decoded) → IsSheet s d → sheet_of s ≡ d)
     (order : InOrder 23 Realizable Unrealizable (λ d. length (forced_of d)) (long_enough forced_work lent) s (length before) (play_number r))
   where
@@ -110,10 +111,10 @@ held_stops =
       passes = start_out;
     }
 
-pub forced_promise : {s before : List ℕ} {r : Forced} {after : List ℕ} (lent : List ℕ) → Bytes s
+pub forced_promise : {s before : List ℕ} {r : Result Made Ground} {after : List ℕ} (lent : List ℕ) → Bytes s
     → Plays (long_enough forced_work lent) s before r after → MakesForced s before lent r after
 forced_promise {s} {before} {r} lent bytes plays =
-    forced_makes lent plays (only_is (only_sheet s))
+    forced_makes lent plays (only_is (only_read s))
     (subst
     (λ (size : Decoded → ℕ).
     InOrder 23 Realizable Unrealizable size (long_enough forced_work lent) s (length before) (play_number r))

@@ -1,6 +1,5 @@
 // The forecast card of a sheet: what each product state can still earn, at best and at least.
 #![tactic(auto)]
 
-pub mod answer;
 pub mod make;
 mod making;

@@ -1,13 +1,13 @@
 // The maker of forecast cards.
 ghost use Rattle.std.specs.Prelude.{◌≡◌, [], ◌∷◌, length};
 ghost use Rattle.records.specs.Meaning.Numbers.{zeros};
-ghost use Rattle.records.specs.Meaning.Work.{long_enough};
-ghost use Rattle.forecast.specs.Promises.Forecast.{forecast_work, MakesForecast};
+ghost use Rattle.forecast.specs.Promises.Forecast.{MakesForecast};
 
-use crate::answer::Forecasting;
-use crate::making::make_with;
-use records::clear::{clear16, clear64};
+use crate::making::{ForecastWork, make_with};
+use card::Card;
 use records::limits::Limits;
+use records::work::long_enough;
+use sheet::layout::Refusal;
 use states::index::Index;
 
 // The maker: the work memory that it needs.
@@ -41,6 +41,8 @@ impl Forecast {
     pub const LOWS: usize = Limits::STATES;
 
     // Makes the forecast card of a sheet. The work memory may hold anything, and is zero afterwards.
+    // The slices come one by one, as C's caller lends them.
+    // Each maker tests its own constants, so that its proof ties what callers lend by them to what its promise asks for.
     pub fn make(
         sheet: &[u8],
         tuples: &mut [u64],
@@ -52,7 +54,7 @@ impl Forecast {
         leasts: &mut [u64],
         highs: &mut [u64],
         lows: &mut [u64],
-    ) -> Forecasting
+    ) -> Result<Card, Refusal>
         ensures made { MakesForecast sheet.now
             (length tuples.old ∷ length cells.old ∷ length dropped.old ∷ length gains.old ∷
             length bonuses.old ∷ length bests.old ∷ length leasts.old ∷
@@ -67,73 +69,48 @@ impl Forecast {
         ensures highs { highs.new ≡ zeros (length highs.old) }
         ensures lows { lows.new ≡ zeros (length lows.old) }
     {
-        let ok = work_ok(
-            tuples.len(),
-            cells.len(),
-            dropped.len(),
-            gains.len(),
-            bonuses.len(),
-            bests.len(),
-            leasts.len(),
-            highs.len(),
-            lows.len(),
+        let ok = long_enough(
+            &[
+                Forecast::TUPLES,
+                Forecast::CELLS,
+                Forecast::DROPPED,
+                Forecast::GAINS,
+                Forecast::BONUSES,
+                Forecast::BESTS,
+                Forecast::LEASTS,
+                Forecast::HIGHS,
+                Forecast::LOWS,
+            ],
+            &[
+                tuples.len(),
+                cells.len(),
+                dropped.len(),
+                gains.len(),
+                bonuses.len(),
+                bests.len(),
+                leasts.len(),
+                highs.len(),
+                lows.len(),
+            ],
         );
-        let made = make_with(
-            ok, sheet, tuples, cells, dropped, gains, bonuses, bests, leasts, highs, lows,
-        );
-        clear64(tuples);
-        clear16(cells);
-        clear16(dropped);
-        clear16(gains);
-        clear16(bonuses);
-        clear64(bests);
-        clear64(leasts);
-        clear64(highs);
-        clear64(lows);
+        let work = ForecastWork {
+            gains,
+            bonuses,
+            bests,
+            leasts,
+            highs,
+            lows,
+        };
+        let made = make_with(ok, sheet, tuples, cells, dropped, work);
+        tuples.fill(0);
+        cells.fill(0);
+        dropped.fill(0);
+        gains.fill(0);
+        bonuses.fill(0);
+        bests.fill(0);
+        leasts.fill(0);
+        highs.fill(0);
+        lows.fill(0);
         made
     }
-}
-
-// Whether every slice of work memory is long enough.
-fn work_ok(
-    tuples: usize,
-    cells: usize,
-    dropped: usize,
-    gains: usize,
-    bonuses: usize,
-    bests: usize,
-    leasts: usize,
-    highs: usize,
-    lows: usize,
-) -> bool
-    ensures { result ≡ long_enough forecast_work (tuples ∷ cells ∷ dropped ∷ gains ∷ bonuses ∷ bests ∷ leasts ∷ highs ∷ lows ∷ []) }
-{
-    if tuples < Forecast::TUPLES {
-        return false;
-    }
-    if cells < Forecast::CELLS {
-        return false;
-    }
-    if dropped < Forecast::DROPPED {
-        return false;
-    }
-    if gains < Forecast::GAINS {
-        return false;
-    }
-    if bonuses < Forecast::BONUSES {
-        return false;
-    }
-    if bests < Forecast::BESTS {
-        return false;
-    }
-    if leasts < Forecast::LEASTS {
-        return false;
-    }
-    if highs < Forecast::HIGHS {
-        return false;
-    }
-    if lows < Forecast::LOWS {
-        return false;
-    }
-    true
 }

@@ -5,17 +5,20 @@ use mathlib.Core.Bool.{true}
 use mathlib.Core.List.{List}
 use Prim.Native.Nat.{ℕ}
 use native.Mathlib.Omega.{arith}
+use Rattle.std.specs.Prelude.{Result}
 use Rattle.records.specs.Meaning.Limits.{horizon_ok}
 use Rattle.records.specs.Meaning.Numbers.{Bytes}
 use Rattle.records.specs.Meaning.Work.{long_enough, asked_bytes}
 use Rattle.sheet.specs.Meaning.Decoded.{Decoded, SheetOk, input_lines}
 use Rattle.sheet.specs.Model.Reader.{reading}
 use Rattle.sheet.specs.Promises.Reader.{Reads}
-use Rattle.sheet.specs.Laws.Reading.{reads, only_sheet}
+use Rattle.sheet.specs.Laws.Reading.{reads}
+use Rattle.solve.specs.Laws.RefusalOrder.{only_read}
 use Rattle.solve.specs.Meaning.Allowed.{Accepted}
 use Rattle.solve.specs.Model.Making.{Answers}
 use Rattle.solve.specs.Promises.Making.{Makes}
 use Rattle.solve.specs.Laws.Judging.{Only, makes, accepted_layout, written_front}
+use Rattle.sheet.specs.declared.layout.Refusal.{Refusal}
 use Rattle.solve.specs.declared.made.Made.{Made}
 use Rattle.plan.specs.Laws.Solved.{sheet_horizon}
 use Rattle.plan.specs.Model.GuardOfSheet.{guard_table_by, states_by, guard_table_of, states_of}
@@ -28,7 +31,7 @@ abbrev InBounds : (Decoded → ℕ) → Type 0
 InBounds horizon = (d : Decoded) → SheetOk d → horizon_ok (input_lines d) (horizon d) ≡ true
 
 -- the whole promise, from the answer by the model
-pub guard_makes : (horizon : Decoded → ℕ) → InBounds horizon → {s before : List ℕ} {r : Made} {after : List ℕ} (lent : List ℕ)
+pub guard_makes : (horizon : Decoded → ℕ) → InBounds horizon → {s before : List ℕ} {r : Result Made Refusal} {after : List ℕ} (lent : List ℕ)
     → Answers (guard_table_by horizon) (states_by horizon) (long_enough guard_work lent) s before r after
     → Reads s (reading s) → Only s → MakesOver horizon s before lent r after
 unfolding guard_table_by asked_bytes
@@ -54,7 +57,7 @@ guard_makes horizon near {s} {before} {r} {after} lent answers read only =
     rows d a = table-rows d a.sheet.in_bounds (accepted_layout a) a.realizable (horizon d)
 
 -- the maker's, of any bytes, by the laws of the reader
-pub guard_promise : {s before : List ℕ} {r : Made} {after : List ℕ} (lent : List ℕ) → Bytes s
+pub guard_promise : {s before : List ℕ} {r : Result Made Refusal} {after : List ℕ} (lent : List ℕ) → Bytes s
     → Answers guard_table_of states_of (long_enough guard_work lent) s before r after → MakesGuard s before lent r after
 guard_promise {s} lent bytes answers =
-    guard_makes (λ d. d.horizon) (λ d ok. sheet_horizon d ok.horizon) lent answers (reads s bytes) (only_sheet s)
+    guard_makes (λ d. d.horizon) (λ d ok. sheet_horizon d ok.horizon) lent answers (reads s bytes) (only_read s)

@@ -1,11 +1,12 @@
 // The maker of guard tables.
 ghost use Rattle.std.specs.Prelude.{◌≡◌, [], ◌∷◌, length};
 ghost use Rattle.records.specs.Meaning.Numbers.{zeros};
-ghost use Rattle.records.specs.Meaning.Work.{long_enough};
-ghost use Rattle.guard.specs.Promises.GuardMaker.{guard_work, MakesGuard};
+ghost use Rattle.guard.specs.Promises.GuardMaker.{MakesGuard};
 
 use plan::making::make_cleared;
 use records::limits::Limits;
+use records::work::long_enough;
+use sheet::layout::Refusal;
 use solve::made::Made;
 use states::index::Index;
 
@@ -41,6 +42,8 @@ impl Guard {
     pub const NUMBERS: usize = Limits::STATES;
 
     // Makes the guard table of a sheet. The work memory may hold anything, and is zero afterwards.
+    // The slices come one by one, as C's caller lends them.
+    // Each maker tests its own constants, so that its proof ties what callers lend by them to what its promise asks for.
     pub fn make(
         sheet: &[u8],
         res: &mut [u8],
@@ -53,7 +56,7 @@ impl Guard {
         arrivals: &mut [u64],
         order: &mut [u16],
         numbers: &mut [u16],
-    ) -> Made
+    ) -> Result<Made, Refusal>
         ensures made { MakesGuard sheet.now res.old
             (length tuples.old ∷ length cells.old ∷ length dropped.old ∷ length gains.old ∷
             length bonuses.old ∷ length values.old ∷ length arrivals.old ∷
@@ -68,65 +71,33 @@ impl Guard {
         ensures order { order.new ≡ zeros (length order.old) }
         ensures numbers { numbers.new ≡ zeros (length numbers.old) }
     {
-        let ok = work_ok(
-            tuples.len(),
-            cells.len(),
-            dropped.len(),
-            gains.len(),
-            bonuses.len(),
-            values.len(),
-            arrivals.len(),
-            order.len(),
-            numbers.len(),
+        let ok = long_enough(
+            &[
+                Guard::TUPLES,
+                Guard::CELLS,
+                Guard::DROPPED,
+                Guard::GAINS,
+                Guard::BONUSES,
+                Guard::VALUES,
+                Guard::ARRIVALS,
+                Guard::ORDER,
+                Guard::NUMBERS,
+            ],
+            &[
+                tuples.len(),
+                cells.len(),
+                dropped.len(),
+                gains.len(),
+                bonuses.len(),
+                values.len(),
+                arrivals.len(),
+                order.len(),
+                numbers.len(),
+            ],
         );
         make_cleared(
             ok, sheet, res, tuples, cells, dropped, gains, bonuses, values, arrivals, order,
             numbers,
         )
     }
-}
-
-// Whether every slice of work memory is long enough.
-#[tactic(auto, using(records::specs::Laws::Tests::cases), unfolding(records::specs::Meaning::Work::long_enough))]
-fn work_ok(
-    tuples: usize,
-    cells: usize,
-    dropped: usize,
-    gains: usize,
-    bonuses: usize,
-    values: usize,
-    arrivals: usize,
-    order: usize,
-    numbers: usize,
-) -> bool
-    ensures { result ≡ long_enough guard_work (tuples ∷ cells ∷ dropped ∷ gains ∷ bonuses ∷ values ∷ arrivals ∷ order ∷ numbers ∷ []) }
-{
-    if tuples < Guard::TUPLES {
-        return false;
-    }
-    if cells < Guard::CELLS {
-        return false;
-    }
-    if dropped < Guard::DROPPED {
-        return false;
-    }
-    if gains < Guard::GAINS {
-        return false;
-    }
-    if bonuses < Guard::BONUSES {
-        return false;
-    }
-    if values < Guard::VALUES {
-        return false;
-    }
-    if arrivals < Guard::ARRIVALS {
-        return false;
-    }
-    if order < Guard::ORDER {
-        return false;
-    }
-    if numbers < Guard::NUMBERS {
-        return false;
-    }
-    true
 }

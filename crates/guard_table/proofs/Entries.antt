@@ -8,8 +8,9 @@ use native.Mathlib.Decide.{dec_lt}
 use native.Mathlib.Omega.{arith}
 use borrow.Author.Tests.{le-leb, lt-leb}
 use lib.Pow.{pow_mono}
-use Rattle.records.specs.Laws.Bounded.{all_of, all_fails}
-use Rattle.records.specs.Laws.Tests.{both_ways}
+use Rattle.records.specs.Laws.Bounded.{all_of, all_fails, all-at, all-not}
+use Rattle.records.specs.Meaning.Bounded.{all}
+use Rattle.records.specs.Laws.Tests.{both_ways, by_test}
 use Rattle.records.specs.Meaning.Limits.{max_inputs, max_ins}
 use Rattle.guard_table.specs.Meaning.GuardTable.{output_in, next_in}
 use Rattle.guard_table.specs.Meaning.Loadable.{entry_ok, entries_ok}
@@ -42,3 +43,10 @@ module _ (t : List ℕ) (inputs outputs count place : ℕ) where
   unfolding entries_ok
   entries_pass most f =
       all_of (2 ^ inputs) _ (λ i h. sym (passes_inside i h) ∙ f i (omega (arith, pow_mono {i = inputs} {j = max_inputs} most)))
+
+  -- so all of them pass just where all of the row's do
+  pub entries_all : inputs ≤ max_inputs → all max_ins (entry_passes t inputs outputs count place) ≡ entries_ok t inputs outputs count place
+  entries_all most =
+      by_test (all max_ins (entry_passes t inputs outputs count place))
+      (λ e. e ∙ sym (entries_pass most (all-at max_ins _ e)))
+      (λ e. let f = all-not max_ins _ e in e ∙ sym (entry_fails f.0 f.2))

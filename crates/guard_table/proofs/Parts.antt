@@ -2,19 +2,22 @@
 -- Assumes nothing.
 use mathlib.Core.Path.{◌≡◌, refl, sym, ap, ◌∙◌}
 use mathlib.Core.Bool.{Bool, true, false, cond, ◌||◌}
+use Rattle.std.specs.Prelude.{Option, Some, None, MatchOption}
+use Rattle.std.specs.Option.{unwrap_or}
 use mathlib.Core.List.{List}
 use Prim.Native.Nat.{ℕ, ◌+◌, ◌≤◌, ◌<◌}
 use lib.Dec.{eqb}
 use lib.ListN.{length}
-use borrow.Author.Tests.{eqb-true, eq-eqb, ne_eqb, le-leb, lt-leb}
+use borrow.Author.Tests.{eqb-true, eq-eqb, le-leb, lt-leb}
 use Rattle.records.specs.Meaning.Numbers.{u16_at}
-use Rattle.records.specs.Laws.Tests.{by_test}
+use Rattle.records.specs.Laws.Tests.{by_test, both_ways, and_both, or_right}
 use Rattle.guard_table.specs.Meaning.RowKind.{kind_number}
 use Rattle.guard_table.specs.Meaning.GuardTable.{head_kind, header_is, first_kind, shown_length, shows_kind, kind_of}
 use Rattle.guard_table.specs.Model.Parts.{part_of}
 use Rattle.guard_table.specs.declared.kind.RowKind.{RowKind}
 use Rattle.guard_table.specs.declared.kind.RowKind.TheVariants.{Narrow, Wide}
 use Rattle.guard_table.specs.declared.part.Part.{Part}
+use Rattle.guard_table.specs.contracts.part.PartPartialEq.TheImpl as part_eq
 use Rattle.guard_table.specs.declared.part.Part.TheVariants.{Head, Row, Other}
 
 -- a head; a row; a row of a kind; the kind of rows
@@ -37,6 +40,20 @@ abbrev pub rows_by : Part → RowKind
 rows_by Head = Narrow
 rows_by (Row kind) = kind
 rows_by Other = Narrow
+
+-- what `==` says of a part and a head, and of a part and a row of a kind
+pub same_head : (p : Part) → (part_eq.ghosts).eq p Head ≡ is_head p
+same_head Head = refl
+same_head (Row kind) = refl
+same_head Other = refl
+
+pub same_row : (kind : RowKind) (p : Part) → (part_eq.ghosts).eq p (Row kind) ≡ is_row_of kind p
+same_row kind Head = refl
+same_row Narrow (Row Narrow) = refl
+same_row Narrow (Row Wide) = refl
+same_row Wide (Row Narrow) = refl
+same_row Wide (Row Wide) = refl
+same_row kind Other = refl
 
 -- what holds of each number that is told, and of the rest
 each : (P : ℕ → Type 0) → P head_kind → P (kind_number Narrow) → P (kind_number Wide)
@@ -79,11 +96,19 @@ module _ (t : List ℕ) where
     unfolding kind_of
     kind-found = kind_told (first_kind t) ∙ ap rows_by (sym first ∙ e)
 
-  module _ (at size : ℕ) where
-    pub header_unsized : (kind : ℕ) {read : ℕ} → read ≡ u16_at t at → (read ≡ size → ⊥) → header_is t at size kind ≡ false
-    unfolding header_is
-    header_unsized kind r n = simp (ne_eqb (u16_at t at) size (λ e. n (r ∙ e)))
+  -- a slice that is long enough and shows no kind is read as one with narrow rows
+  kind-none : shown_length ≤ length t → shows_kind t ≡ false → kind_of t ≡ Narrow
+  unfolding shows_kind kind_of
+  kind-none h e =
+      by_test (eqb (first_kind t) (kind_number Wide)) (λ w. both_ways (and_both _ _ (le-leb shown_length (length t) h) (or_right _ _ w)) e) (λ n. simp n)
 
+  -- so the kind that was found, or else the narrow one, is that by which the rows are read
+  pub kind_or-narrow : shown_length ≤ length t → (found : Option RowKind)
+      → MatchOption found (shows_kind t ≡ false) (λ kind. (shows_kind t ≡ true) × (kind ≡ kind_of t)) → unwrap_or found Narrow ≡ kind_of t
+  kind_or-narrow h None e = sym (kind-none h e)
+  kind_or-narrow h (Some kind) e = e.1
+
+  module _ (at size : ℕ) where
     module _ {read : ℕ} (r : read ≡ u16_at t at) (sized : read ≡ size)
         {part told : Part} (there : part ≡ part_of (u16_at t (at + 2))) (e : part ≡ told) where
       pub header-head : header_is t at size head_kind ≡ is_head told

@@ -2,7 +2,7 @@
 ghost use Rattle.std.specs.Prelude.{◌≡◌, ◌+◌, ◌<◌, ◌≤◌, length};
 ghost use Rattle.std.proofs.lemmas.List.Edits.{sets};
 ghost use Rattle.records.specs.Meaning.Limits.{max_outputs};
-ghost use Rattle.guard_table.specs.Meaning.GuardTable.{output_in, next_in, guard_entry};
+ghost use Rattle.guard_table.specs.Meaning.GuardTable.{kind_of, output_in, next_in, guard_entry};
 ghost use Rattle.guard_table.specs.Meaning.Loadable.{entry_ok};
 ghost use Rattle.guard_table.specs.Meaning.RowKind.{states_most, entry_width, next_at, next_bytes};
 ghost use Rattle.guard_table.specs.Model.Inside.{Inside};
@@ -29,21 +29,30 @@ fn next_at(kind: RowKind, table: &[u8], at: usize) -> u16
     }
 }
 
-// The entry of a state and an input, by the kind of rows that the table shows.
+// The entry of a state and an input, in rows of the kind that the table shows.
+pub(crate) fn entry_by(table: &[u8], layout: Layout, place: usize, input: usize) -> Entry
+    requires shown { layout.kind ≡ kind_of table.now }
+    requires inside { Inside table.now layout.inputs place input }
+    ensures { (result.output ≡ output_in table.now layout.inputs place input)
+        × (result.next ≡ next_in table.now layout.inputs place input) }
+{
+    let at = layout.entry_at(place, input);
+    Entry {
+        output: table[at],
+        next: next_at(layout.kind, table, at + 1),
+    }
+}
+
+// The same, where the kind is still to be read.
 pub fn entry_in(table: &[u8], lines: u8, place: usize, input: usize) -> Entry
     requires { Inside table.now lines place input }
     ensures { (result.output ≡ output_in table.now lines place input) × (result.next ≡ next_in table.now lines place input) }
 {
-    let kind = kind_of(table);
     let layout = Layout {
         inputs: lines,
-        kind,
+        kind: kind_of(table),
     };
-    let at = layout.entry_at(place, input);
-    Entry {
-        output: table[at],
-        next: next_at(kind, table, at + 1),
-    }
+    entry_by(table, layout, place, input)
 }
 
 // Writes a next state at an index.
@@ -58,6 +67,7 @@ fn put_next(res: &mut [u8], at: usize, kind: RowKind, next: u16)
 }
 
 // Writes an entry where it stands.
+// An index and no cut of the slice: the promise says of the whole slice that all else stays.
 pub fn put_entry(res: &mut [u8], at: usize, kind: RowKind, entry: Entry)
     requires { (at + entry_width kind ≤ length res.old) × (entry.next < states_most kind) }
     ensures { res.new ≡ sets res.old at (guard_entry kind entry.output entry.next) }
@@ -67,12 +77,10 @@ pub fn put_entry(res: &mut [u8], at: usize, kind: RowKind, entry: Entry)
 }
 
 // Whether the output and the next state are in range.
+#[tactic(auto, using(records::specs::Laws::Tests::cases), unfolding(crate::specs::Meaning::Loadable::entry_ok))]
 pub fn entry_ok(entry: Entry, outputs: u8, count: usize) -> bool
     requires { outputs ≤ max_outputs }
     ensures { result ≡ entry_ok entry.output entry.next outputs count }
 {
-    if (entry.output as usize) < pow2(outputs) {
-        return (entry.next as usize) < count;
-    }
-    false
+    (entry.output as usize) < pow2(outputs) && (entry.next as usize) < count
 }

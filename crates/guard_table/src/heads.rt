@@ -17,14 +17,7 @@ pub fn head_is(t: &[u8]) -> bool
     requires { 3 < length t.now }
     ensures { result ≡ header_is t.now 0 head_size head_kind }
 {
-    if u16_at(t, 0) != Layout::HEAD_SIZE {
-        return false;
-    }
-    match part_at(t, 0) {
-        Part::Head => true,
-        Part::Row(_) => false,
-        Part::Other => false,
-    }
+    u16_at(t, 0) == Layout::HEAD_SIZE && part_at(t, 0) == Part::Head
 }
 
 // Whether a row's header, of this size and this kind, stands at an index.
@@ -32,14 +25,7 @@ pub fn row_is(t: &[u8], at: usize, size: u16, kind: RowKind) -> bool
     requires { at + 3 < length t.now }
     ensures { result ≡ header_is t.now at size (kind_number kind) }
 {
-    if u16_at(t, at) != size {
-        return false;
-    }
-    match part_at(t, at) {
-        Part::Row(found) => found.same(kind),
-        Part::Head => false,
-        Part::Other => false,
-    }
+    u16_at(t, at) == size && part_at(t, at) == Part::Row(kind)
 }
 
 // Writes the head, at the start of the result.
@@ -62,7 +48,6 @@ pub fn put_row_header(res: &mut [u8], layout: Layout, place: usize)
         ≡ sets res.old (row_at layout.kind layout.inputs place)
         (header (row_size layout.kind layout.inputs) (kind_number layout.kind)) }
 {
-    let kind = layout.kind;
     let size = layout.row_size();
-    put_header(res, layout.row_at(place), size as u16, kind.number());
+    put_header(res, layout.row_at(place), size as u16, layout.kind.number());
 }

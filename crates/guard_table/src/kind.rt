@@ -1,5 +1,5 @@
 // The two kinds of rows, which differ in how an entry's next state is written, and the kind that a table shows.
-ghost use Rattle.std.specs.Prelude.{◌≡◌, ◌≤◌, eqb, length};
+ghost use Rattle.std.specs.Prelude.{◌≡◌, ◌≤◌, true, false, length, MatchOption};
 ghost use Rattle.guard_table.specs.Meaning.GuardTable.{shown_length, shows_kind, kind_of};
 ghost use Rattle.guard_table.specs.Meaning.RowKind.{kind_number, states_most, kind_for, entry_width};
 
@@ -7,19 +7,20 @@ use crate::layout::Layout;
 use crate::part::{Part, part_at};
 use records::limits::Limits;
 
-#[derive(Clone, Copy)]
+// A kind is the number in a row's header.
+#[derive(Clone, Copy, Debug, PartialEq, Eq)]
 pub enum RowKind {
-    // 17: the next state is one byte
-    Narrow,
-    // 20: it is two
-    Wide,
+    // the next state is one byte
+    Narrow = 17,
+    // it is two
+    Wide = 20,
 }
 
 impl RowKind {
-    // The numbers in a row's header.
-    pub const NARROW: u16 = 17;
+    // The numbers, as a `match` takes them.
+    pub const NARROW: u16 = RowKind::Narrow as u16;
 
-    pub const WIDE: u16 = 20;
+    pub const WIDE: u16 = RowKind::Wide as u16;
 
     // A narrow row can name so many states.
     pub const NARROW_STATES: usize = 256;
@@ -39,26 +40,7 @@ impl RowKind {
     pub fn number(self) -> u16
         ensures { result ≡ kind_number self }
     {
-        match self {
-            RowKind::Narrow => RowKind::NARROW,
-            RowKind::Wide => RowKind::WIDE,
-        }
-    }
-
-    // Whether another kind is this one.
-    pub fn same(self, other: RowKind) -> bool
-        ensures { result ≡ eqb (kind_number self) (kind_number other) }
-    {
-        match self {
-            RowKind::Narrow => match other {
-                RowKind::Narrow => true,
-                RowKind::Wide => false,
-            },
-            RowKind::Wide => match other {
-                RowKind::Narrow => false,
-                RowKind::Wide => true,
-            },
-        }
+        self as u16
     }
 
     // How many states a table with such rows may have.
@@ -82,28 +64,23 @@ impl RowKind {
     }
 }
 
-// Whether the slice is long enough to show the kind of its first row, and shows one of the two.
-pub fn shows_kind(table: &[u8]) -> bool
-    ensures { result ≡ shows_kind table.now }
+// The kind of a slice's first row, if the slice is long enough to show it, and it is one of the two.
+pub fn shown_kind(table: &[u8]) -> Option<RowKind>
+    ensures { MatchOption result (shows_kind table.now ≡ false) (λ kind. (shows_kind table.now ≡ true) × (kind ≡ kind_of table.now)) }
 {
     if table.len() < Layout::SHOWN {
-        return false;
+        return None;
     }
     match part_at(table, Layout::HEAD_LENGTH) {
-        Part::Row(_) => true,
-        Part::Head => false,
-        Part::Other => false,
+        Part::Row(kind) => Some(kind),
+        Part::Head | Part::Other => None,
     }
 }
 
-// That kind.
+// The kind by which the rows of a slice are read: the one that is shown, else the narrow one.
 pub fn kind_of(table: &[u8]) -> RowKind
     requires { shown_length ≤ length table.now }
     ensures { result ≡ kind_of table.now }
 {
-    match part_at(table, Layout::HEAD_LENGTH) {
-        Part::Row(kind) => kind,
-        Part::Head => RowKind::Narrow,
-        Part::Other => RowKind::Narrow,
-    }
+    shown_kind(table).unwrap_or(RowKind::Narrow)
 }

@@ -13,6 +13,7 @@ use records::numbers::pow2;
 pub struct Layout {
     pub inputs: u8,
     pub kind: RowKind,
+    ghost inputs_most: { inputs ≤ max_inputs },
 }
 
 impl Layout {
@@ -48,16 +49,13 @@ impl Layout {
 
     // The bytes of a row's body: an entry for each input.
     pub fn row_size(self) -> usize
-        requires { self.inputs ≤ max_inputs }
         ensures { (result ≡ row_size self.kind self.inputs) × (result ≤ row_most) }
     {
-        let kind = self.kind;
-        kind.width() * pow2(self.inputs)
+        self.kind.width() * pow2(self.inputs)
     }
 
     // The bytes of a row's record.
     pub fn row_length(self) -> usize
-        requires { self.inputs ≤ max_inputs }
         ensures { (result ≡ row_length self.kind self.inputs) × (result ≤ 4 + row_most) }
     {
         Layout::HEADER + self.row_size()
@@ -65,7 +63,7 @@ impl Layout {
 
     // Where the row of a state begins: after the head and the rows before it.
     pub fn row_at(self, place: usize) -> usize
-        requires { (self.inputs ≤ max_inputs) × (place ≤ max_states) }
+        requires { place ≤ max_states }
         ensures { (result ≡ row_at self.kind self.inputs place) × (result ≤ table_most) }
     {
         Layout::HEAD_LENGTH + place * self.row_length()
@@ -73,7 +71,7 @@ impl Layout {
 
     // The bytes of a table with so many states: it ends where one row more would begin.
     pub fn table_length(self, count: usize) -> usize
-        requires { (self.inputs ≤ max_inputs) × (count ≤ max_states) }
+        requires { count ≤ max_states }
         ensures { result ≡ length_in self.kind self.inputs count }
     {
         self.row_at(count)
@@ -81,11 +79,10 @@ impl Layout {
 
     // Where the entry of a state and an input stands.
     pub fn entry_at(self, place: usize, input: usize) -> usize
-        requires { (self.inputs ≤ max_inputs) × ((place ≤ max_states) × (input ≤ max_ins)) }
+        requires { (place ≤ max_states) × (input ≤ max_ins) }
         ensures { result ≡ entry_at self.kind self.inputs place input }
     {
-        let kind = self.kind;
-        self.row_at(place) + (Layout::HEADER + kind.width() * input)
+        self.row_at(place) + (Layout::HEADER + self.kind.width() * input)
     }
 }
 

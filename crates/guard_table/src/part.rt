@@ -7,7 +7,7 @@ use crate::kind::RowKind;
 use crate::layout::Layout;
 use records::numbers::u16_at;
 
-#[derive(Clone, Copy)]
+#[derive(Clone, Copy, Debug, PartialEq, Eq)]
 pub enum Part {
     Head,
     Row(RowKind),
@@ -15,7 +15,7 @@ pub enum Part {
     Other,
 }
 
-// What the record that begins at an index is.
+// What the record that begins at an index is. The papers tell a kind by a match on the number, with a range for the rest.
 pub fn part_at(t: &[u8], at: usize) -> Part
     requires { at + 3 < length t.now }
     ensures { result ≡ part_of (u16_at t.now (at + 2)) }

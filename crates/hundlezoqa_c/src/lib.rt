@@ -1,6 +1,7 @@
 // The public calls for programs in other languages: each is one call of a crate below, and its promise is that call's; the guard's has
 // demand 3 once more, over boards that are bytes.
 // A slice crosses as a pointer and a length, a board as 16 bytes, a card as 1,025 words, an answer as document 01's number.
+// Work memory comes slice by slice, as C's caller lends it.
 // An array crosses as a pointer alone. So each name ends in its array's size: a program that was compiled for another does not link.
 #![tactic(auto)]
 
@@ -10,11 +11,13 @@ ghost use Rattle.board_bytes.specs.Promises.ByteCalls.{LoadCall, StepCall, Rewin
 ghost use Rattle.hundlezoqa_c.specs.Promises.Library.{ReportsSupervisor, ReportsGuard, ReportsForecast, ReportsForced, ReportsListing};
 
 use board_bytes::BoardBytes;
-use board_bytes::numbers::{Figures, report, verdict_number};
+use board_bytes::numbers::{Figures, report};
+use card::Card;
 use card_words::{CardWords, write_card};
 use forced::make::Forcing;
 use forecast::make::Forecast;
 use guard::make::Guard;
+use records::numbered::answer_number;
 use report::Report;
 use supervisor::make::Supervisor;
 
@@ -77,6 +80,7 @@ pub extern "C" fn hz_make_guard_2(
 }
 
 // Makes a forecast card, in words.
+#[tactic(auto, using(crate::proofs::Numbers::card_given, crate::proofs::Numbers::made_numbers))]
 #[unsafe(no_mangle)]
 pub extern "C" fn hz_forecast_1025(
     sheet: &[u8],
@@ -108,12 +112,15 @@ pub extern "C" fn hz_forecast_1025(
     let made = Forecast::make(
         sheet, tuples, cells, dropped, gains, bonuses, bests, leasts, highs, lows,
     );
-    write_card(made.card, card);
-    let verdict = made.verdict;
-    verdict_number(verdict)
+    match made {
+        Ok(made_card) => write_card(made_card, card),
+        Err(_) => write_card(Card::lost(), card),
+    }
+    answer_number(made) as u32
 }
 
 // Shows how a break is forced.
+#[tactic(auto, using(crate::proofs::Reported::play_figures))]
 #[unsafe(no_mangle)]
 pub extern "C" fn hz_forced_2(
     sheet: &[u8],
@@ -131,8 +138,7 @@ pub extern "C" fn hz_forced_2(
     ensures dropped { dropped.new ≡ zeros (length dropped.old) }
 {
     let forced = Forcing::make(sheet, res, tuples, cells, dropped);
-    *figures = [forced.length() as u64, forced.states() as u64];
-    forced.number()
+    report(forced, figures)
 }
 
 // Loads a table.
@@ -177,6 +183,6 @@ pub extern "C" fn hz_list_1(
     ensures { ReportsListing table.now text.old text.new result figures.new }
 {
     let listed = Report::list(table, text);
-    *figures = [listed.length() as u64];
-    listed.number()
+    *figures = [listed.unwrap_or(0) as u64];
+    answer_number(listed) as u32
 }

@@ -3,6 +3,7 @@
 use mathlib.Core.Path.{◌≡◌, refl, sym, ap, ap₂, ◌∙◌, subst}
 use mathlib.Core.Bool.{Bool, true, false, cond, false≢true}
 use mathlib.Core.List.{List}
+use Rattle.std.specs.Prelude.{Result, Ok, Err}
 use mathlib.Core.Logic.{⊎_elim}
 use Prim.Native.Nat.{ℕ, zero, suc, ◌≤◌, ◌<◌}
 use native.Mathlib.Omega.{arith}
@@ -21,9 +22,10 @@ use Rattle.guard_table.specs.Meaning.RowKind.{kind_for}
 use Rattle.guard_table.specs.Laws.GuardTable.{length_most}
 use Rattle.sheet.specs.Meaning.Decoded.{Decoded, SheetOk, input_lines}
 use Rattle.sheet.specs.Meaning.Grounds.{ground_number}
-use Rattle.sheet.specs.Laws.Grounds.{some_number}
+use Rattle.sheet.specs.Laws.Grounds.{some_number, answered}
 use Rattle.sheet.specs.Meaning.Refusals.{sheet_number, first_number}
 use Rattle.sheet.specs.Laws.Reading.{reads}
+use Rattle.sheet.specs.Model.Reader.{reading}
 use Rattle.sheet.specs.declared.layout.Refusal.{Refusal}
 use Rattle.product.specs.Model.ProductNumbering.{state_count}
 use Rattle.rounds.specs.Model.TableRounds.{is_in}
@@ -33,7 +35,6 @@ use Rattle.solve.specs.Meaning.Made.{made_number, made_length, made_states}
 use Rattle.solve.specs.Laws.Judging.{accepted_layout}
 use Rattle.solve.specs.Laws.StateGrounds.{start_in}
 use Rattle.solve.specs.declared.made.Made.{Made}
-use Rattle.solve.specs.declared.made.Made.TheVariants.{Table, Refused}
 use Rattle.guard_table.specs.Meaning.Loadable.{loadable}
 use Rattle.plan.specs.Model.GuardOfSheet.{guard_table_by, guard_table_of, states_of}
 use Rattle.guard.specs.Promises.GuardMaker.{guard_work, MakesGuard}
@@ -44,7 +45,7 @@ use Rattle.plan.specs.Laws.Answered.{length-guard}
 use Rattle.listing_text.specs.Meaning.Listing.{listing_of, refused_text, too_long_text}
 use Rattle.report.specs.Promises.Report.{Writes, text_length, outcome_due, outcome_text, listed_length}
 use Rattle.report.specs.Laws.ListingAnswers.{writes_fits, outcome_most}
-use Rattle.report.specs.declared.Listed.{Listed}
+use Rattle.report.specs.declared.ListRefusal.{ListRefusal}
 use Rattle.listing.specs.Promises.Printed.{sheet_most, sheet_ground, guard_text, printed, Prints, Tells, PrintsGuard, PrintsSheet, ReadInto, read_text, PrintsRead}
 
 -- ---- a sheet that is accepted
@@ -70,7 +71,10 @@ accepted s e = let r = both (sheet_number s) (first_number (many_number (sheet_o
 
 in_bounds : (s : List ℕ) → Bytes s → sheet_number s ≡ 0 → SheetOk (sheet_of s)
 unfolding sheet_of
-in_bounds s bytes none = ((reads s bytes).fits ((reads s bytes).number ∙ none)).ok
+in_bounds s bytes none =
+    let h = answered (reading s) ((reads s bytes).number ∙ none) in
+    let fits = rw h.1 at (reads s bytes).fits in
+    rw h.1 fits.ok
 
 module _ (d : Decoded) (ok : SheetOk d) (fits : state_count d ≤ max_states) (start : is_in (dropped_of d) 0 ≡ true) where
   -- its table is loadable
@@ -118,24 +122,24 @@ pub record Due (s : List ℕ) (due : Bool) (words : List ℕ) : Type 0 where
   pub due_is : due ≡ true
   pub words_are : words ≡ guard_text s
 
-pub outcome_tells : (s : List ℕ) → Bytes s → (before : List ℕ) → length before ≡ table_most → (r : Made) {after : List ℕ}
+pub outcome_tells : (s : List ℕ) → Bytes s → (before : List ℕ) → length before ≡ table_most → (r : Result Made Refusal) {after : List ℕ}
     → Answers guard_table_of states_of true s before r after → Due s (outcome_due r after) (outcome_text r after)
 unfolding outcome_due outcome_text guard_text
-outcome_tells s bytes before size (Table count states) {after} answers =
+outcome_tells s bytes before size (Ok made) {after} answers =
     let d = sheet_of s in
     let none : sheet_ground s ≡ 0 = sym (making_as s bytes) ∙ ap (making_number guard_table_of true s) (sym size) ∙ sym answers.number in
     let a = accepted s none in
     let ok = in_bounds s bytes a.0 in
     let fits : length (guard_table_of d) ≤ length before = omega (arith, short d ok a.1 a.2) in
-    let table : take count after ≡ guard_table_of d =
+    let table : take made.length after ≡ guard_table_of d =
     ap₂ take answers.size answers.bytes ∙ front before (guard_table_of d) fits in
-    let inside : count ≤ length after =
+    let inside : made.length ≤ length after =
     omega (arith, answers.size, ap length answers.bytes ∙ length-sets before 0 (guard_table_of d)) in
     record {
-      due_is = rw (le-leb count (length after) inside, table) (loads d ok a.1 a.2);
+      due_is = rw (le-leb made.length (length after) inside, table) (loads d ok a.1 a.2);
       words_are = rw (table, none);
     }
-outcome_tells s bytes before size (Refused ground) {after} answers =
+outcome_tells s bytes before size (Err ground) {after} answers =
     let same : ground_number ground ≡ sheet_ground s =
     answers.number ∙ ap (making_number guard_table_of true s) size ∙ making_as s bytes in
     record { due_is = refl; words_are = rw (← same, some_ground ground) }
@@ -143,7 +147,7 @@ outcome_tells s bytes before size (Refused ground) {after} answers =
 -- ---- what is left of it in the text memory
 
 -- a text that is due and fits, by its length
-pub writes_prints : {due : Bool} {r : ℕ} {words text before : List ℕ} {x : Listed} {after : List ℕ} → Writes due words before x after
+pub writes_prints : {due : Bool} {r : ℕ} {words text before : List ℕ} {x : Result ℕ ListRefusal} {after : List ℕ} → Writes due words before x after
     → due ≡ true → length words ≤ length before → words ≡ text → r ≡ listed_length x → Prints text before r after
 writes_prints {before = before} w e h f g =
     let none = writes_fits w e h in
@@ -156,17 +160,17 @@ writes_prints {before = before} w e h f g =
 -- ---- what it means
 
 -- the text of a refusal, and of a table
-refusal_text : (r : Made) (after : List ℕ) (n : ℕ) → 1 ≤ made_number r → made_number r ≡ n → outcome_text r after ≡ refused_text n
+refusal_text : (r : Result Made Refusal) (after : List ℕ) (n : ℕ) → 1 ≤ made_number r → made_number r ≡ n → outcome_text r after ≡ refused_text n
 unfolding outcome_text
-refusal_text (Table size states) after n h e = absurd (omega arith)
-refusal_text (Refused ground) after n h e = ap refused_text e
+refusal_text (Ok made) after n h e = absurd (omega arith)
+refusal_text (Err ground) after n h e = ap refused_text e
 
-table_text : (r : Made) (after : List ℕ) → made_number r ≡ 0 → outcome_text r after ≡ listing_of (take (made_length r) after)
+table_text : (r : Result Made Refusal) (after : List ℕ) → made_number r ≡ 0 → outcome_text r after ≡ listing_of (take (made_length r) after)
 unfolding outcome_text
-table_text (Table size states) after e = refl
-table_text (Refused ground) after e = absurd (omega (arith, (some_number ground).1))
+table_text (Ok made) after e = refl
+table_text (Err ground) after e = absurd (omega (arith, (some_number ground).1))
 
-module _ {s before lent : List ℕ} {made : Made} {after : List ℕ} (m : MakesGuard s before lent made after) (bytes : Bytes s)
+module _ {s before lent : List ℕ} {made : Result Made Refusal} {after : List ℕ} (m : MakesGuard s before lent made after) (bytes : Bytes s)
     (size : length before ≡ table_most) (exact : lent ≡ exactly guard_work)
   where
     enough : long_enough guard_work lent ≡ true
@@ -194,7 +198,7 @@ module _ {s before lent : List ℕ} {made : Made} {after : List ℕ} (m : MakesG
         says n h e = sym due ∙ refusal_text made after n h e
 
     -- what the maker answered, told in enough text memory
-    pub outcome_prints : {memory : List ℕ} {x : Listed} {now : List ℕ} → text_length ≤ length memory
+    pub outcome_prints : {memory : List ℕ} {x : Result ℕ ListRefusal} {now : List ℕ} → text_length ≤ length memory
         → Writes (outcome_due made after) (outcome_text made after) memory x now → {r : ℕ} → r ≡ listed_length x
         → PrintsGuard s memory r now
     outcome_prints room writes e =

@@ -43,6 +43,7 @@ fn read_full<R: Read>(input: &mut R, memory: &mut [u8]) -> io::Result<usize>
     ensures bytes { IfOk result (λ size. Consumes (R.remaining input.old) (R.remaining input.new) (take size memory.new)) }
     ensures end { IfOk result (λ size. size < length memory.new → IsAtEnd (R.remaining input.new)) }
 {
+    // No `for`: each read answers how far it got.
     let mut size = 0;
     while size < memory.len() {
         let read = input.read(&mut memory[size..])?;
@@ -65,6 +66,7 @@ fn is_at_end<R: Read>(input: &mut R) -> io::Result<bool>
 
 // What is printed for what was read, `size` bytes at the start of the memory; `ended` says that the end was seen behind them. Answers the
 // text's length: 0, and nothing is printed, where the end was not seen and they are no more than a sheet's.
+// Size and flag, and no slice that was ended or not: a size past the sheet's says too long whether the end was seen or not.
 #[tactic(auto, unfolding(crate::specs::Promises::Printed::read_text, crate::specs::Promises::Printed::printed, report::specs::Promises::Report::text_number))]
 fn print(
     memory: &[u8; Listing::READ],
@@ -75,7 +77,7 @@ fn print(
     ensures { PrintsRead memory.now size ended text.old result text.new }
 {
     if Listing::SHEET < size {
-        return Report::too_long(text).length();
+        return Report::too_long(text).unwrap_or(0);
     }
     let read = &memory[..];
     if !ended {
@@ -111,5 +113,5 @@ fn print_guard(sheet: &[u8], text: &mut [u8; Report::TEXT]) -> usize
         &mut order,
         &mut numbers,
     );
-    Report::outcome(made, &result, text).length()
+    Report::outcome(made, &result, text).unwrap_or(0)
 }

@@ -6,22 +6,17 @@ ghost use Rattle.guard_table.specs.Meaning.GuardTable.{head_length, head_inputs,
 ghost use Rattle.guard_table.specs.Model.Inside.{Closed};
 ghost use Rattle.listing_text.specs.Meaning.Listing.{decimal, head_line, entry_text, entry_of, row_of, listing_of};
 
+use crate::table::ClosedTable;
 use guard_table::entry::{Entry, entry_in};
 use guard_table::layout::Layout;
-use records::numbers::{pow2, u16_at};
+use records::numbers::pow2;
 
-// A number in decimal: a digit, and one for each time that it can be divided by ten.
+// A number in decimal: one more than its logarithm, and one for 0.
 pub fn number_length(n: usize) -> usize
     requires { n < 1000 }
     ensures { (result ≡ length (decimal n)) × (result ≤ 3) }
 {
-    let mut digits: usize = 1;
-    let mut rest = n;
-    while 10 <= rest {
-        rest = rest / 10;
-        digits += 1;
-    }
-    digits
+    n.max(1).ilog10() as usize + 1
 }
 
 // An entry: two marks and two numbers.
@@ -32,42 +27,37 @@ pub fn entry_length(entry: Entry) -> usize
     2 + number_length(entry.output as usize) + number_length(entry.next as usize)
 }
 
-// The entries of a state.
-pub fn entries_length(table: &[u8], inputs: u8, count: usize, k: usize) -> usize
-    requires { Closed table.now inputs count × (k < count) }
-    ensures { (result ≡ length (cat (2 ^ inputs) (entry_of table.now inputs k))) × (result ≤ 128) }
-{
-    let entries = pow2(inputs);
-    let mut total: usize = 0;
-    let mut i: usize = 0;
-    while i < entries {
-        let entry = entry_in(table, inputs, k, i);
-        total += entry_length(entry);
-        i += 1;
+impl ClosedTable<'_> {
+    // The entries of a state.
+    pub fn entries_length(&self, k: usize) -> usize
+        requires { k < self.now.count }
+        ensures { (result ≡ length (cat (2 ^ self.now.inputs) (entry_of self.now.bytes.now self.now.inputs k))) × (result ≤ 128) }
+    {
+        let mut total: usize = 0;
+        for i in 0..pow2(self.inputs) {
+            total += entry_length(entry_in(self.bytes, self.inputs, k, i));
+        }
+        total
     }
-    total
-}
 
-// The line of a state: its number, a colon, the entries, and the end.
-pub fn row_length(table: &[u8], inputs: u8, count: usize, k: usize) -> usize
-    requires { Closed table.now inputs count × (k < count) }
-    ensures { (result ≡ length (row_of table.now inputs k)) × (result ≤ 133) }
-{
-    2 + number_length(k) + entries_length(table, inputs, count, k)
-}
-
-// The lines of the states.
-pub fn rows_length(table: &[u8], inputs: u8, count: usize) -> usize
-    requires { Closed table.now inputs count }
-    ensures { (result ≡ length (cat count (row_of table.now inputs))) × (result ≤ 133 * max_states) }
-{
-    let mut total: usize = 0;
-    let mut k: usize = 0;
-    while k < count {
-        total += row_length(table, inputs, count, k);
-        k += 1;
+    // The line of a state: its number, a colon, the entries, and the end.
+    pub fn row_length(&self, k: usize) -> usize
+        requires { k < self.now.count }
+        ensures { (result ≡ length (row_of self.now.bytes.now self.now.inputs k)) × (result ≤ 133) }
+    {
+        2 + number_length(k) + self.entries_length(k)
     }
-    total
+
+    // The lines of the states.
+    pub fn rows_length(&self) -> usize
+        ensures { (result ≡ length (cat self.now.count (row_of self.now.bytes.now self.now.inputs))) × (result ≤ 133 * max_states) }
+    {
+        let mut total: usize = 0;
+        for k in 0..self.count {
+            total += self.row_length(k);
+        }
+        total
+    }
 }
 
 // The first line: four words of 33 letters together, four numbers, and the end.
@@ -82,16 +72,16 @@ pub fn head_length(count: usize, inputs: u8, outputs: u8, horizon: u8) -> usize
 }
 
 // The listing of a table.
+// Over bytes, as `put_listing` is, and no `ClosedTable`: the inputs and states of that need not be those in its head.
 pub fn listing_length(table: &[u8]) -> usize
     requires { (head_length ≤ length table.now) × Closed table.now (head_inputs table.now) (head_count table.now) }
     ensures { result ≡ length (listing_of table.now) }
 {
-    let inputs = table[Layout::INPUTS];
-    let count = u16_at(table, Layout::COUNT) as usize;
+    let closed = ClosedTable::of(table);
     head_length(
-        count,
-        inputs,
+        closed.count,
+        closed.inputs,
         table[Layout::OUTPUTS],
         table[Layout::HORIZON],
-    ) + rows_length(table, inputs, count)
+    ) + closed.rows_length()
 }

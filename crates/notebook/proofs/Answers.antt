@@ -2,6 +2,7 @@
 -- Assumes nothing.
 use mathlib.Core.Path.{◌≡◌, ap, ◌∙◌}
 use mathlib.Core.List.{List}
+use Rattle.std.specs.Prelude.{Result}
 use Prim.Native.Nat.{ℕ, ◌≤◌}
 use lib.ListN.{length, take, length-replicate}
 use native.Mathlib.Omega.{arith}
@@ -9,32 +10,25 @@ use lib.Seq.{sets, length-sets, take-append_seam}
 use Rattle.records.specs.Laws.Lists.{sets_front}
 use Rattle.records.specs.Meaning.Numbers.{zeros}
 use Rattle.records.specs.Laws.Work.{exactly, exactly_enough}
-use Rattle.product.specs.Model.ProductNumbering.{state_count}
-use Rattle.supervisor.specs.Model.SupervisorOfSheet.{supervisor_table}
-use Rattle.supervisor.specs.Promises.SupervisorMaker.{supervisor_work, MakesSupervisor}
+use Rattle.records.specs.Meaning.Work.{Slice, long_enough}
+use Rattle.sheet.specs.Meaning.Decoded.{Decoded, encode}
+use Rattle.sheet.specs.declared.layout.Refusal.{Refusal}
 use Rattle.solve.specs.declared.made.Made.{Made}
-use Rattle.plan.specs.Model.GuardOfSheet.{guard_table_of, states_of}
-use Rattle.guard.specs.Promises.GuardMaker.{guard_work, MakesGuard}
-use Rattle.notebook.specs.Model.Counters.{Answered}
+use Rattle.solve.specs.Promises.Making.{Makes}
+use Rattle.notebook.specs.Model.Counters.{counters, Answered}
+use Rattle.notebook.proofs.Encoding.{length_encoded}
 
 -- a new array's length
 pub zeros-length : (n : ℕ) → length (zeros n) ≡ n
 zeros-length n = length-replicate {A = ℕ} n 0
 
-pub supervisor-answered : {s before lent after : List ℕ} {r : Made} {room : ℕ} → MakesSupervisor s before lent r after
-    → lent ≡ exactly supervisor_work → length before ≡ room → Answered supervisor_table state_count s room r
-supervisor-answered m e d =
+pub answered : {table : Decoded → List ℕ} {stateCounts : Decoded → ℕ} (asked : List Slice) {s before lent after : List ℕ}
+    {r : Result Made Refusal} {room : ℕ} → Makes table stateCounts (long_enough asked lent) s before r after → lent ≡ exactly asked
+    → length before ≡ room → Answered table stateCounts s room r
+answered asked m e d =
     record {
-      number = rw (← exactly_enough supervisor_work, ← e, ← d) m.makes.answers.number;
-      states = m.makes.answers.states;
-    }
-
-pub guard-answered : {s before lent after : List ℕ} {r : Made} {room : ℕ} → MakesGuard s before lent r after
-    → lent ≡ exactly guard_work → length before ≡ room → Answered guard_table_of states_of s room r
-guard-answered m e d =
-    record {
-      number = rw (← exactly_enough guard_work, ← e, ← d) m.makes.answers.number;
-      states = m.makes.answers.states;
+      number = rw (← exactly_enough asked, ← e, ← d) m.answers.number;
+      states = m.answers.states;
     }
 
 -- ---- the sheet's bytes at the start of a new array
@@ -43,11 +37,14 @@ pub record Written (size : ℕ) (array s : List ℕ) : Type 0 where
   pub inside : size ≤ length array
   pub part : take size array ≡ s
 
-pub written : (s : List ℕ) {array : List ℕ} {size : ℕ} → length s ≤ 512 → (array ≡ sets (zeros 512) 0 s) × (size ≡ length s)
-    → Written size array s
-written s {array} h e =
+pub written : {n m size : ℕ} {array : List ℕ} → (n ≤ 32) × (m ≤ 32)
+    → (array ≡ sets (zeros 512) 0 (encode (counters n m))) × (size ≡ length (encode (counters n m)))
+    → Written size array (encode (counters n m))
+written {n} {m} {array = array} few e =
+    let s : List ℕ = encode (counters n m) in
+    let size : length s ≤ 512 = omega (arith, length_encoded n m few.0 few.1) in
     let long : length array ≡ 512 = ap length e.0 ∙ length-sets (zeros 512) 0 s ∙ zeros-length 512 in
     record {
-      inside = omega (arith, e.1);
-      part = rw (e.0, e.1, sets_front (zeros 512) s (omega (arith, zeros-length 512))) (take-append_seam s _);
+      inside = omega (arith, e.1, size);
+      part = rw (e.0, e.1, sets_front (zeros 512) s (omega (arith, size, zeros-length 512))) (take-append_seam s _);
     }

@@ -5,40 +5,39 @@
 mod counters;
 mod makers;
 
-ghost use Rattle.std.specs.Prelude.{◌≤◌};
-
+use counters::TwoCounters;
 use makers::{counters_guard, counters_supervisor};
+use records::numbered::Numbered;
+use sheet::layout::Refusal;
 use solve::made::Made;
 use std::io;
 
 // The answer of a maker: the states of its table, or the number of the refusal.
-fn print_made(rt: &impl Print, made: Made) -> io::Result<()> {
+fn print_made(rt: &impl Print, made: Result<Made, Refusal>) -> io::Result<()> {
     match made {
-        Made::Table { length: _, states } => println!(rt; "{states} states"),
-        Made::Refused(ground) => println!(rt; "refused {}", ground.number()),
+        Ok(table) => println!(rt; "{} states", table.states),
+        Err(cause) => println!(rt; "refused {}", cause.number()),
     }
 }
 
 // What begins a line: the two counters.
-fn print_counters(rt: &impl Print, n: usize, m: usize) -> io::Result<()> {
-    print!(rt; "{n} and {m}")
+fn print_counters(rt: &impl Print, pair: TwoCounters) -> io::Result<()> {
+    print!(rt; "{} and {}", pair.n, pair.m)
 }
 
 // A line for each maker.
-fn report(rt: &impl Print, n: usize, m: usize) -> io::Result<()>
-    requires { (n ≤ 32) × (m ≤ 32) }
-{
-    print_counters(rt, n, m)?;
+fn report(rt: &impl Print, pair: TwoCounters) -> io::Result<()> {
+    print_counters(rt, pair)?;
     print!(rt; ", supervisor: ")?;
-    print_made(rt, counters_supervisor(n, m))?;
-    print_counters(rt, n, m)?;
+    print_made(rt, counters_supervisor(pair))?;
+    print_counters(rt, pair)?;
     print!(rt; ", guard: ")?;
-    print_made(rt, counters_guard(n, m))
+    print_made(rt, counters_guard(pair))
 }
 
 fn main(rt: HostRuntime) -> io::Result<()> {
-    report(&rt, 32, 8)?;
-    report(&rt, 32, 9)?;
-    report(&rt, 32, 16)?;
-    report(&rt, 32, 17)
+    report(&rt, TwoCounters { n: 32, m: 8 })?;
+    report(&rt, TwoCounters { n: 32, m: 9 })?;
+    report(&rt, TwoCounters { n: 32, m: 16 })?;
+    report(&rt, TwoCounters { n: 32, m: 17 })
 }

@@ -1,5 +1,5 @@
 // The makers, on sheets of two counters and with work memory of their own.
-ghost use Rattle.std.specs.Prelude.{◌≤◌};
+ghost use Rattle.std.specs.Fn.{FnReturnsAt};
 ghost use Rattle.sheet.specs.Meaning.Decoded.{encode};
 ghost use Rattle.product.specs.Model.ProductNumbering.{state_count};
 ghost use Rattle.supervisor.specs.Model.SupervisorOfSheet.{supervisor_table};
@@ -7,13 +7,15 @@ ghost use Rattle.plan.specs.Model.GuardOfSheet.{guard_table_of, states_of};
 ghost use Rattle.notebook.specs.Model.Counters.{counters, Answered};
 ghost use Rattle.notebook.specs.Model.Figures.{room};
 
-use crate::counters::put_sheet;
+use crate::counters::{TwoCounters, put_sheet};
 use guard::make::Guard;
 use guard_table::layout::Layout;
+use sheet::layout::Refusal;
 use solve::made::Made;
 use supervisor::make::Supervisor;
 
-fn supervisor_of(sheet: &[u8]) -> Made
+// Each maker has work memory of its own, in arrays of the lengths that its constants say.
+fn supervisor_of(sheet: &[u8]) -> Result<Made, Refusal>
     ensures { Answered supervisor_table state_count sheet.now room result }
 {
     let mut result = [0u8; Layout::MOST];
@@ -23,7 +25,7 @@ fn supervisor_of(sheet: &[u8]) -> Made
     Supervisor::make(sheet, &mut result, &mut tuples, &mut cells, &mut dropped)
 }
 
-fn guard_of(sheet: &[u8]) -> Made
+fn guard_of(sheet: &[u8]) -> Result<Made, Refusal>
     ensures { Answered guard_table_of states_of sheet.now room result }
 {
     let mut result = [0u8; Layout::MOST];
@@ -51,22 +53,29 @@ fn guard_of(sheet: &[u8]) -> Made
     )
 }
 
-// What the supervisor's maker answers to counters of n and m states.
-pub fn counters_supervisor(n: usize, m: usize) -> Made
-    requires { (n ≤ 32) × (m ≤ 32) }
-    ensures { Answered supervisor_table state_count (encode (counters n m)) room result }
+// What a maker answers to two counters.
+fn counters_made<F: Fn(&[u8]) -> Result<Made, Refusal>>(
+    maker: F,
+    pair: TwoCounters,
+) -> Result<Made, Refusal>
+    requires { F.IsAlwaysCallable maker }
+    ensures { FnReturnsAt F.Fn maker (encode (counters pair.n pair.m)) result }
 {
     let mut sheet = [0u8; 512];
-    let size = put_sheet(&mut sheet, n, m);
-    supervisor_of(&sheet[..size])
+    let size = put_sheet(&mut sheet, pair);
+    maker(&sheet[..size])
+}
+
+// The supervisor's.
+pub fn counters_supervisor(pair: TwoCounters) -> Result<Made, Refusal>
+    ensures { Answered supervisor_table state_count (encode (counters pair.n pair.m)) room result }
+{
+    counters_made(supervisor_of, pair)
 }
 
 // And the guard's.
-pub fn counters_guard(n: usize, m: usize) -> Made
-    requires { (n ≤ 32) × (m ≤ 32) }
-    ensures { Answered guard_table_of states_of (encode (counters n m)) room result }
+pub fn counters_guard(pair: TwoCounters) -> Result<Made, Refusal>
+    ensures { Answered guard_table_of states_of (encode (counters pair.n pair.m)) room result }
 {
-    let mut sheet = [0u8; 512];
-    let size = put_sheet(&mut sheet, n, m);
-    guard_of(&sheet[..size])
+    counters_made(guard_of, pair)
 }

@@ -137,18 +137,11 @@ module _
     {g : Game} {n horizon : ℕ} {bests₀ leasts₀ highs₀ lows₀ bests leasts highs lows : List ℕ} {factor p : ℕ}
     (fits : Fits g n horizon) (r : Foreseen g n horizon bests₀ leasts₀ highs₀ lows₀ bests leasts highs lows factor p)
   where
-    pub same : (length bests ≡ length bests₀) × (length leasts ≡ length leasts₀)
-    same = (figure_same r.best, figure_same r.least)
-
     pub best_asks : Gained n g.gains × (Valued n bests factor × (n ≤ length highs))
     best_asks = figure_asks fits r.at largest (best_bound fits.sized) r.best
 
     pub least_asks : Gained n g.gains × (Valued n leasts factor × (n ≤ length lows))
     least_asks = figure_asks fits r.at smallest (least_bound fits.sized) r.least
-
-    -- the numbers of words fit, with an input more too
-    pub words_most : p < horizon → (factor ≤ 2 ^ max_horizon) × (factor * g.ins ≤ 2 ^ max_horizon)
-    words_most h = (few_words fits r.at, few_words fits (step_more fits r.at h))
 
     -- with both arrivals prepared
     module _

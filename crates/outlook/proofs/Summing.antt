@@ -3,6 +3,7 @@
 use mathlib.Core.Path.{◌≡◌, sym}
 use mathlib.Core.Bool.{Bool, true, false}
 use mathlib.Core.List.{List}
+use Rattle.std.specs.Prelude.{Some, None}
 use Prim.Native.Nat.{ℕ, ◌+◌, ◌*◌, ◌^◌, ◌≤◌, ◌<◌}
 use native.Mathlib.Omega.{arith}
 use Rattle.records.specs.Meaning.Bounded.{sum}
@@ -15,7 +16,10 @@ use Rattle.values.specs.Model.Values.{Game, may_give, score_of}
 use Rattle.values.specs.Model.Sizes.{Ready}
 use Rattle.values.specs.Laws.Growth.{best_most}
 use Rattle.outlook.specs.Model.Outlook.{worth_by}
-use Rattle.outlook.specs.Model.Spans.{span_before, span_of, sums_of}
+use Rattle.outlook.specs.Model.Spans.{span_of, sums_of}
+use Rattle.outlook.specs.Laws.Spans.{spanned, unspanned}
+use Rattle.values.specs.Model.Tables.{game_in}
+use Rattle.outlook.specs.declared.span.ReadyBoth.{ReadyBoth}
 use Rattle.outlook.specs.declared.span.Span.{Span}
 
 -- ---- by either pick
@@ -60,6 +64,14 @@ module _ {pick : Pick} (under : Under pick) {g : Game} {values : List ℕ} {fact
 
 -- ---- both
 
+-- a game in a round is ready for either sum
+module _ (r : ReadyBoth) {k : ℕ} (h : k < r.n) where
+  pub ready_high : Ready (game_in r.game) r.highs.now r.factor k
+  ready_high = record { states = r.n; sized = r.sized; valued = r.high; state = h }
+
+  pub ready_low : Ready (game_in r.game) r.lows.now r.factor k
+  ready_low = record { states = r.n; sized = r.sized; valued = r.low; state = h }
+
 -- the sums over the inputs before i
 pub record Summed (g : Game) (bests leasts : List ℕ) (factor k best least i : ℕ) : Type 0 where
   pub within : i ≤ g.ins
@@ -70,23 +82,32 @@ pub begin : (g : Game) (bests leasts : List ℕ) (factor k : ℕ) → Summed g b
 begin g bests leasts factor k = record { within = omega arith; high = sym (sum_none _); low = sym (sum_none _) }
 
 module _
-    {g : Game} {bests leasts : List ℕ} {factor k : ℕ} (highs : Ready g bests factor k) (lows : Ready g leasts factor k)
-    {best least i : ℕ} (r : Summed g bests leasts factor k best least i) (h : i < g.ins)
-    {span : Span} (e : span ≡ span_of g bests leasts factor k i)
+    {g : Game} {bests leasts : List ℕ} {factor k best least i : ℕ} (r : Summed g bests leasts factor k best least i) (h : i < g.ins)
   where
-    higher : (best + span.best ≡ summed top g bests factor k (i + 1)) × (best + span.best ≤ 16 * 2 ^ 41)
-    unfolding span_of span_before
-    higher = summed_more top_under highs h r.high (rw e)
+    module _
+        (highs : Ready g bests factor k) (lows : Ready g leasts factor k) {span : Span} (e : Some span ≡ span_of g bests leasts factor k i)
+      where
+        higher : (best + span.best ≡ summed top g bests factor k (i + 1)) × (best + span.best ≤ 16 * 2 ^ 41)
+        higher = summed_more top_under highs h r.high (spanned g bests leasts factor k i e).0
 
-    lower : (least + span.least ≡ summed bottom g leasts factor k (i + 1)) × (least + span.least ≤ 16 * 2 ^ 41)
-    unfolding span_of span_before
-    lower = summed_more bottom_under lows h r.low (rw e)
+        lower : (least + span.least ≡ summed bottom g leasts factor k (i + 1)) × (least + span.least ≤ 16 * 2 ^ 41)
+        lower = summed_more bottom_under lows h r.low (spanned g bests leasts factor k i e).1
 
-    pub fits : (best + span.best ≤ 16 * 2 ^ 41) × (least + span.least ≤ 16 * 2 ^ 41)
-    fits = (higher.1, lower.1)
+        pub fits : (best + span.best ≤ 16 * 2 ^ 41) × (least + span.least ≤ 16 * 2 ^ 41)
+        fits = (higher.1, lower.1)
 
-    pub more : Summed g bests leasts factor k (best + span.best) (least + span.least) (i + 1)
-    more = record { within = omega arith; high = higher.0; low = lower.0 }
+        pub more : Summed g bests leasts factor k (best + span.best) (least + span.least) (i + 1)
+        more = record { within = omega arith; high = higher.0; low = lower.0 }
+
+    -- an input at which no output may be given adds nothing
+    pub same : None ≡ span_of g bests leasts factor k i → Summed g bests leasts factor k best least (i + 1)
+    same e =
+        let none = unspanned g bests leasts factor k i e in
+        record {
+          within = omega arith;
+          high = rw sum_more (omega (arith, r.high, none.0));
+          low = rw sum_more (omega (arith, r.low, none.1));
+        }
 
 module _ (g : Game) (bests leasts : List ℕ) (factor k : ℕ) where
   pub lost : is_in g.dropped k ≡ false → record { best = 0; least = 0 } ≡ sums_of g bests leasts factor k

@@ -5,22 +5,18 @@ ghost use Rattle.records.specs.Model.Bounded.{top};
 ghost use Rattle.records.specs.Model.Lists.{put};
 ghost use Rattle.game.specs.Model.Extreme.{bottom};
 ghost use Rattle.values.specs.Model.Values.{SizedGame};
-ghost use Rattle.values.specs.Model.Sizes.{game_of};
+ghost use Rattle.values.specs.Model.Tables.{game_with};
 ghost use Rattle.outlook.specs.Model.Outlook.{table_value};
 
-use crate::sums::sums_round;
-use records::clear::clear_front64;
-use values::values::prepare;
+use crate::span::ReadyBoth;
+use values::values::{TableGame, prepare};
 
 // The sums of the first `n` states over a horizon, in `bests` and `leasts`; what it answers is the number of words of so many inputs.
 // Nothing is promised of `highs` and `lows`, which it works in.
+// The slices are parameters, one for each row as C lends them: a struct would have to promise of each that it is still the caller's.
 pub fn foresee(
-    cells: &[u16],
-    dropped: &[u16],
+    game: &TableGame,
     gains: &[u16],
-    bonuses: &[u16],
-    ins: usize,
-    outs: usize,
     n: usize,
     bests: &mut [u64],
     leasts: &mut [u64],
@@ -28,30 +24,30 @@ pub fn foresee(
     lows: &mut [u64],
     horizon: u8,
 ) -> u64
-    requires sized_game { SizedGame (game_of cells.now dropped.now gains.now bonuses.now ins outs) n }
-    requires n_in_bounds { n ≤ length gains.now }
-    requires n_in_bounds_2 { (n ≤ length bests.old) × (n ≤ length leasts.old) }
-    requires n_in_bounds_3 { (n ≤ length highs.old) × (n ≤ length lows.old) }
-    requires horizon_le_max_horizon { (horizon ≤ max_horizon) × (ins ^ horizon ≤ 2 ^ max_horizon) }
-    ensures best { bests.new ≡ put bests.old n
-        (table_value top (game_of cells.now dropped.now gains.now bonuses.now ins outs) horizon) }
-    ensures least { leasts.new ≡ put leasts.old n
-        (table_value bottom (game_of cells.now dropped.now gains.now bonuses.now ins outs)
-        horizon) }
-    ensures words { result ≡ ins ^ horizon }
+    requires sized_game { SizedGame (game_with game.now gains.now) n }
+    requires gains_room { n ≤ length gains.now }
+    requires rows_room { (n ≤ length bests.old) × (n ≤ length leasts.old) }
+    requires spares_room { (n ≤ length highs.old) × (n ≤ length lows.old) }
+    requires horizon_in_bounds { (horizon ≤ max_horizon) × (game.now.steps.ins ^ horizon ≤ 2 ^ max_horizon) }
+    ensures best { bests.new ≡ put bests.old n (table_value top (game_with game.now gains.now) horizon) }
+    ensures least { leasts.new ≡ put leasts.old n (table_value bottom (game_with game.now gains.now) horizon) }
+    ensures words { result ≡ game.now.steps.ins ^ horizon }
 {
-    clear_front64(bests, n);
-    clear_front64(leasts, n);
+    bests[..n].fill(0);
+    leasts[..n].fill(0);
     let mut factor: u64 = 1;
-    let mut p: u8 = 0;
-    while p < horizon {
+    for _ in 0..horizon {
         prepare(gains, bests, highs, n, factor);
         prepare(gains, leasts, lows, n, factor);
-        sums_round(
-            cells, dropped, bonuses, ins, outs, n, highs, lows, bests, leasts, factor,
-        );
-        factor *= ins as u64;
-        p += 1;
+        let ready = ReadyBoth {
+            game: *game,
+            n,
+            highs,
+            lows,
+            factor,
+        };
+        ready.sums_round(bests, leasts);
+        factor *= game.steps.ins as u64;
     }
     factor
 }

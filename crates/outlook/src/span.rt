@@ -1,90 +1,77 @@
 // The scores of the outputs that may be given at an input: the largest and the smallest.
-ghost use Rattle.std.specs.Prelude.{◌≡◌, ◌<◌, min};
-ghost use Rattle.values.specs.Model.Arrivals.{arrival_game};
-ghost use Rattle.values.specs.Model.Sizes.{Ready};
-ghost use Rattle.outlook.specs.Model.Spans.{no_span, widened, span_of};
+ghost use Rattle.std.specs.Prelude.{◌≡◌, ◌<◌};
+ghost use Rattle.values.specs.Model.Values.{SizedGame};
+ghost use Rattle.values.specs.Model.Sizes.{Valued};
+ghost use Rattle.values.specs.Model.Tables.{game_in};
+ghost use Rattle.outlook.specs.Model.Spans.{widened, span_of};
 
-use values::values::{larger, next_of, offer_of, score_of};
+use values::values::{ReadyGame, TableGame};
 
-// The largest and the smallest score of the outputs tried so far, and whether there was one.
+// The largest and the smallest score of some outputs, of which there is one at least.
 #[derive(Clone, Copy)]
 pub struct Span {
-    pub some: bool,
     pub best: u64,
     pub least: u64,
 }
 
-// The smaller of two.
-pub fn smaller(a: u64, b: u64) -> u64
-    ensures { result ≡ min a b }
-{
-    if b < a {
-        return b;
-    }
-    a
-}
-
 impl Span {
-    // No output yet.
-    pub fn none() -> Span
-        ensures { result ≡ no_span }
+    // One output's scores, with those of the outputs tried before it, if there were any.
+    #[tactic(auto, unfolding(crate::specs::Model::Spans::widened))]
+    pub fn with(self, tried: Option<Span>) -> Span
+        ensures { result ≡ widened tried self.best self.least }
     {
-        Span {
-            some: false,
-            best: 0,
-            least: 0,
-        }
-    }
-
-    // With one output more, of these scores.
-    pub fn with(self, best: u64, least: u64) -> Span
-        ensures { result ≡ widened self best least }
-    {
-        let highest = larger(self.best, best);
-        if self.some {
-            return Span {
-                some: true,
-                best: highest,
-                least: smaller(self.least, least),
-            };
-        }
-        Span {
-            some: true,
-            best: highest,
-            least,
+        match tried {
+            Some(span) => Span {
+                best: span.best.max(self.best),
+                least: span.least.min(self.least),
+            },
+            None => self,
         }
     }
 }
 
-// The span of a state at an input. `bests` and `leasts` hold what arriving in a state earns and is worth, at best and at least.
-pub fn span_at(
-    cells: &[u16],
-    dropped: &[u16],
-    bonuses: &[u16],
-    ins: usize,
-    outs: usize,
-    bests: &[u64],
-    leasts: &[u64],
-    factor: u64,
-    k: usize,
-    i: usize,
-) -> Span
-    requires ready { Ready (arrival_game cells.now dropped.now bonuses.now ins outs) bests.now factor k }
-    requires ready_2 { Ready (arrival_game cells.now dropped.now bonuses.now ins outs) leasts.now factor k }
-    requires i_lt_ins { i < ins }
-    ensures { result ≡ span_of (arrival_game cells.now dropped.now bonuses.now ins outs)
-        bests.now leasts.now factor k i }
-{
-    let mut span = Span::none();
-    let mut o: usize = 0;
-    while o < outs {
-        let offer = offer_of(cells, dropped, bonuses, ins, outs, bests, factor, k, i, o);
-        if offer.allowed {
-            let to = next_of(cells, ins, outs, k, i, o);
-            let least = score_of(bonuses, leasts, factor, to, i + ins * o);
-            span = span.with(offer.score, least);
+// A game of n states in a round, for both sums: `highs` holds for each state what a step to it earns and what follows at best,
+// `lows` at least. Both have the same rounds, so that a cell is read once for the two: the project's form.
+#[derive(Clone, Copy)]
+pub struct ReadyBoth<'a> {
+    pub game: TableGame<'a>,
+    pub n: usize,
+    pub highs: &'a [u64],
+    pub lows: &'a [u64],
+    pub factor: u64,
+    pub ghost sized: { SizedGame (game_in game) n },
+    pub ghost high: { Valued n highs.now factor },
+    pub ghost low: { Valued n lows.now factor },
+}
+
+impl ReadyBoth<'_> {
+    // The span of a state at an input; none if no output may be given.
+    pub(crate) fn span_at(&self, k: usize, i: usize) -> Option<Span>
+        requires state { k < self.now.n }
+        requires input { i < self.now.game.steps.ins }
+        ensures { result ≡ span_of (game_in self.now.game) self.now.highs.now self.now.lows.now self.now.factor k i }
+    {
+        let high = ReadyGame {
+            game: self.game,
+            n: self.n,
+            arrivals: self.highs,
+            factor: self.factor,
+        };
+        let low = ReadyGame {
+            game: self.game,
+            n: self.n,
+            arrivals: self.lows,
+            factor: self.factor,
+        };
+        let mut span: Option<Span> = None;
+        for o in 0..self.game.steps.outs {
+            if let Some(best) = high.offer_of(k, i, o) {
+                let to = self.game.steps.next_of(k, i, o);
+                let least = low.score_of(to, i + self.game.steps.ins * o);
+                let scores = Span { best, least };
+                span = Some(scores.with(span));
+            }
         }
-        o += 1;
+        span
     }
-    span
 }

@@ -1,88 +1,55 @@
 // The sums of a state one step earlier: over the inputs, of its largest and of its smallest scores.
-ghost use Rattle.std.specs.Prelude.{◌≡◌, ◌≤◌, length};
+ghost use Rattle.std.specs.Prelude.{◌≡◌, ◌≤◌, ◌<◌, length};
 ghost use Rattle.records.specs.Model.Bounded.{top};
 ghost use Rattle.records.specs.Model.Lists.{put};
 ghost use Rattle.game.specs.Model.Extreme.{bottom};
-ghost use Rattle.values.specs.Model.Values.{SizedGame};
-ghost use Rattle.values.specs.Model.Arrivals.{arrival_game};
-ghost use Rattle.values.specs.Model.Sizes.{Ready, Valued};
+ghost use Rattle.values.specs.Model.Tables.{game_in};
 ghost use Rattle.outlook.specs.Model.Outlook.{worth_by};
 ghost use Rattle.outlook.specs.Model.Spans.{sums_of};
 
-use crate::span::span_at;
+use crate::span::ReadyBoth;
 use rounds::is_kept;
 
 // What ways of answering earn from a state, added over all words of inputs: at best and at least.
+// No `Span`: that is of the outputs at one input, and one type would let it stand for a sum.
 #[derive(Clone, Copy)]
 pub struct Sums {
     pub best: u64,
     pub least: u64,
 }
 
-// The sums of a state; 0 unless it is kept.
-pub fn sums_of(
-    cells: &[u16],
-    dropped: &[u16],
-    bonuses: &[u16],
-    ins: usize,
-    outs: usize,
-    bests: &[u64],
-    leasts: &[u64],
-    factor: u64,
-    k: usize,
-) -> Sums
-    requires ready { Ready (arrival_game cells.now dropped.now bonuses.now ins outs) bests.now factor k }
-    requires ready_2 { Ready (arrival_game cells.now dropped.now bonuses.now ins outs) leasts.now factor k }
-    ensures { result ≡ sums_of (arrival_game cells.now dropped.now bonuses.now ins outs)
-        bests.now leasts.now factor k }
-{
-    let mut best: u64 = 0;
-    let mut least: u64 = 0;
-    if !is_kept(dropped, k) {
-        return Sums { best, least };
+impl ReadyBoth<'_> {
+    // The sums of a state; 0 unless it is kept.
+    fn sums_of(&self, k: usize) -> Sums
+        requires { k < self.now.n }
+        ensures { result ≡ sums_of (game_in self.now.game) self.now.highs.now self.now.lows.now self.now.factor k }
+    {
+        let mut best: u64 = 0;
+        let mut least: u64 = 0;
+        if !is_kept(self.game.dropped, k) {
+            return Sums { best, least };
+        }
+        for i in 0..self.game.steps.ins {
+            if let Some(span) = self.span_at(k, i) {
+                best += span.best;
+                least += span.least;
+            }
+        }
+        Sums { best, least }
     }
-    let mut i: usize = 0;
-    while i < ins {
-        let span = span_at(
-            cells, dropped, bonuses, ins, outs, bests, leasts, factor, k, i,
-        );
-        best += span.best;
-        least += span.least;
-        i += 1;
-    }
-    Sums { best, least }
-}
 
-// The rows of sums for one step more, from the arrivals at best and at least.
-pub fn sums_round(
-    cells: &[u16],
-    dropped: &[u16],
-    bonuses: &[u16],
-    ins: usize,
-    outs: usize,
-    n: usize,
-    highs: &[u64],
-    lows: &[u64],
-    bests: &mut [u64],
-    leasts: &mut [u64],
-    factor: u64,
-)
-    requires sized_game { SizedGame (arrival_game cells.now dropped.now bonuses.now ins outs) n }
-    requires valued { Valued n highs.now factor }
-    requires valued_2 { Valued n lows.now factor }
-    requires n_in_bounds { (n ≤ length bests.old) × (n ≤ length leasts.old) }
-    ensures best { bests.new ≡ put bests.old n
-        (worth_by top (arrival_game cells.now dropped.now bonuses.now ins outs)
-        highs.now factor) }
-    ensures least { leasts.new ≡ put leasts.old n
-        (worth_by bottom (arrival_game cells.now dropped.now bonuses.now ins outs)
-        lows.now factor) }
-{
-    let mut k: usize = 0;
-    while k < n {
-        let sums = sums_of(cells, dropped, bonuses, ins, outs, highs, lows, factor, k);
-        bests[k] = sums.best;
-        leasts[k] = sums.least;
-        k += 1;
+    // The rows of sums for one step more.
+    pub fn sums_round(&self, bests: &mut [u64], leasts: &mut [u64])
+        requires { (self.now.n ≤ length bests.old) × (self.now.n ≤ length leasts.old) }
+        ensures best { bests.new ≡ put bests.old self.now.n
+            (worth_by top (game_in self.now.game) self.now.highs.now self.now.factor) }
+        ensures least { leasts.new ≡ put leasts.old self.now.n
+            (worth_by bottom (game_in self.now.game) self.now.lows.now self.now.factor) }
+    {
+        for k in 0..self.n {
+            let sums = self.sums_of(k);
+            bests[k] = sums.best;
+            leasts[k] = sums.least;
+        }
     }
 }

@@ -4,7 +4,6 @@
 pub mod automaton;
 pub mod letters;
 pub mod monitors;
-pub mod outcome;
 pub mod recovery;
 pub mod rewards;
 pub mod shadows;

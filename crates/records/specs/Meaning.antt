@@ -1,4 +1,5 @@
 -- What a reader must believe.
+pub mod Answers
 pub mod Bits
 pub mod Bounded
 pub mod Records

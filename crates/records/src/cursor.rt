@@ -11,21 +11,17 @@ pub struct Cursor {
     pub at: usize,
 }
 
-// What a cursor finds.
+// A whole record: its body is the `size` bytes from `start`.
 #[derive(Clone, Copy)]
-pub enum Found {
-    // A whole record: its body is the `size` bytes from `start`, and `next` is past it.
-    Record {
-        kind: u16,
-        start: usize,
-        size: usize,
-        next: Cursor,
-    },
-    // Fewer bytes than a header, or a body that runs past the end.
-    Truncated,
-    // Nothing left.
-    End,
+pub struct Record {
+    pub kind: u16,
+    pub start: usize,
+    pub size: usize,
 }
+
+// Fewer bytes than a header, or a body that runs past the end.
+#[derive(Clone, Copy, Debug, PartialEq, Eq)]
+pub struct Truncated;
 
 impl Cursor {
     pub fn first() -> Cursor
@@ -34,31 +30,33 @@ impl Cursor {
         Cursor { at: 0 }
     }
 
-    pub fn read(self, s: &[u8]) -> Found
-        ensures { Finds s.now self.at result }
+    // The record at the cursor, which goes past it; nothing at the end of the bytes.
+    pub fn read(&mut self, s: &[u8]) -> Result<Option<Record>, Truncated>
+        ensures { Finds s.now self.old.at self.new.at result }
     {
         let at = self.at;
         if s.len() <= at {
-            return Found::End;
+            return Ok(None);
         }
         if s.len() - at < 4 {
-            return Found::Truncated;
+            return Err(Truncated);
         }
         let size = u16_at(s, at) as usize;
         let start = at + 4;
         if s.len() - start < size {
-            return Found::Truncated;
+            return Err(Truncated);
         }
-        Found::Record {
+        self.at = start + size;
+        Ok(Some(Record {
             kind: u16_at(s, at + 2),
             start,
             size,
-            next: Cursor { at: start + size },
-        }
+        }))
     }
 }
 
 // Writes a record's header.
+// An index and no cut of the slice: the promise says of the whole slice that all else stays.
 pub fn put_header(out: &mut [u8], at: usize, size: u16, kind: u16)
     requires { at + 3 < length out.old }
     ensures { out.new ≡ sets out.old at (header size kind) }

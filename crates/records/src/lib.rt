@@ -1,8 +1,9 @@
-// What every format and table above shares: clearing, numbers, records, bounds, and the cells of a table of steps.
+// What every format and table above shares: numbers, records, bounds, and the cells of a table of steps.
 #![tactic(auto)]
 
 pub mod cells;
-pub mod clear;
 pub mod cursor;
 pub mod limits;
+pub mod numbered;
 pub mod numbers;
+pub mod work;

@@ -2,7 +2,7 @@
 ghost use Rattle.std.specs.Prelude.{◌≡◌};
 ghost use Rattle.records.specs.Meaning.Limits.{lines_ok, horizon_ok};
 
-// The largest numbers that a sheet may have.
+// The largest numbers that a sheet may have: associated constants, as the papers have them.
 #[derive(Clone, Copy)]
 pub struct Limits {}
 
@@ -40,33 +40,23 @@ impl Limits {
 }
 
 // Whether mode, input lines and output lines are in bounds.
+// Three bytes and no struct: sheets, tables and boards have them in types of their own, and one more would be made for this call alone.
+#[tactic(auto, using(crate::specs::Laws::Tests::cases), unfolding(crate::specs::Meaning::Limits::lines_ok))]
 pub fn lines_ok(mode: u8, inputs: u8, outputs: u8) -> bool
     ensures { result ≡ lines_ok mode inputs outputs }
 {
-    if 1 < mode {
-        return false;
-    }
-    if Limits::INPUTS < inputs {
-        return false;
-    }
-    if outputs < 1 {
-        return false;
-    }
-    if Limits::OUTPUTS < outputs {
-        return false;
-    }
-    if Limits::LINES < inputs + outputs {
-        return false;
-    }
-    mode == 0 || outputs <= inputs
+    mode <= 1
+        && inputs <= Limits::INPUTS
+        && 1 <= outputs
+        && outputs <= Limits::OUTPUTS
+        && inputs + outputs <= Limits::LINES
+        && (mode == 0 || outputs <= inputs)
 }
 
 // Whether the horizon is in bounds for so many input lines.
+#[tactic(auto, using(crate::specs::Laws::Tests::cases), unfolding(crate::specs::Meaning::Limits::horizon_ok))]
 pub fn horizon_ok(inputs: u8, horizon: u8) -> bool
     ensures { result ≡ horizon_ok inputs horizon }
 {
-    if Limits::HORIZON < horizon {
-        return false;
-    }
-    (inputs as u16) * (horizon as u16) <= Limits::HORIZON as u16
+    horizon <= Limits::HORIZON && (inputs as u16) * (horizon as u16) <= Limits::HORIZON as u16
 }

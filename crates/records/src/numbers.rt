@@ -7,27 +7,27 @@ ghost use Rattle.records.specs.Meaning.Numbers.{u16_at, u16_bytes};
 pub fn byte_at(s: &[u8], at: usize) -> u8
     ensures { result ≡ get_or s.now at 0 }
 {
-    if at < s.len() {
-        return s[at];
-    }
-    0
+    s.get(at).copied().unwrap_or(0)
 }
 
 // The two-byte number at an index.
+#[tactic(auto, unfolding(crate::specs::Meaning::Numbers::u16_at))]
 pub fn u16_at(s: &[u8], at: usize) -> u16
     requires { at + 1 < length s.now }
     ensures { result ≡ u16_at s.now at }
 {
-    (s[at] as u16) + 256 * (s[at + 1] as u16)
+    u16::from_le_bytes([s[at], s[at + 1]])
 }
 
 // Writes a two-byte number at an index.
+// An index and no cut of the slice, here and in what writes by it: the promise says of the whole slice that all else stays.
 pub fn put_u16(out: &mut [u8], at: usize, value: u16)
     requires { at + 1 < length out.old }
     ensures { out.new ≡ sets out.old at (u16_bytes value) }
 {
-    out[at] = (value % 256) as u8;
-    out[at + 1] = (value / 256) as u8;
+    let [low, high] = value.to_le_bytes();
+    out[at] = low;
+    out[at + 1] = high;
 }
 
 // 2 to the n.

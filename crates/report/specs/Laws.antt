@@ -1,2 +1,3 @@
 -- Theorems that other crates and the sources cite.
 pub mod ListingAnswers
+pub mod Numbers

@@ -3,7 +3,7 @@
 use mathlib.Core.Path.{◌≡◌, sym, ap, ◌∙◌}
 use mathlib.Core.Bool.{true, false}
 use mathlib.Core.List.{List}
-use Prim.Native.Nat.{ℕ, zero, suc, ◌+◌, ◌*◌, ◌≤◌, ◌<◌}
+use Prim.Native.Nat.{ℕ, ◌+◌, ◌*◌, ◌≤◌, ◌<◌}
 use native.Mathlib.Nat.{mul-zero, mul-suc}
 use native.Mathlib.Decide.{dec_lt}
 use native.Mathlib.Numerals.{add-one}
@@ -15,18 +15,6 @@ use Rattle.records.specs.Meaning.Bounded.{all}
 use Rattle.records.specs.Laws.Bounded.{any_none, any_of, all_fails}
 use Rattle.rounds.specs.Laws.CellPlaces.{cell_in_row}
 use Rattle.rounds.specs.Model.TableRounds.{cell_at, leads_in, answered, stays}
-
--- ---- places that can be counted: the first cell of an input, and the next after one that lies in the row
-
-pub first_fits : (k ins outs i m : ℕ) → k * (ins * outs) + ins * outs ≤ m → i < ins → ins ≤ m → k * (ins * outs) + i ≤ m
-first_fits k ins zero i m row inside most = rw (mul-zero ins, mul-zero k) (omega arith)
-first_fits k ins (suc outs) i m row inside most = omega (arith, mul-suc ins outs)
-
-pub next_fits : (ins outs : ℕ) → 0 < outs → ins ≤ ins * outs
-next_fits ins zero h = absurd (omega arith)
-next_fits ins (suc outs) h = omega (arith, mul-suc ins outs)
-
--- ---- the search
 
 -- the cell at which the search is at input i is an output's, or past the last one's, and those before it lead nowhere
 pub record Searching (cells dropped : List ℕ) (ins outs k i at : ℕ) : Type 0 where
@@ -48,7 +36,7 @@ module _ (cells dropped : List ℕ) (ins outs k : ℕ) where
 
   module _ {i at : ℕ} (inside : i < ins) (s : Searching cells dropped ins outs k i at) where
     -- before the row's end it is an output's
-    pub search_output : at < k * (ins * outs) + ins * outs → s.output < outs
+    search_output : at < k * (ins * outs) + ins * outs → s.output < outs
     unfolding cell_at
     search_output h =
         elim (dec_lt s.output outs) [

@@ -1,17 +1,26 @@
 -- The loop of rounds, left at the first that drops nothing.
 -- Assumes nothing.
-use mathlib.Core.Path.{◌≡◌, sym, ◌∙◌}
-use mathlib.Core.List.{List}
+use mathlib.Core.Path.{◌≡◌, refl, sym, ap, ◌∙◌}
+use mathlib.Core.List.{List, [], ◌∷◌, ◌++◌}
 use Prim.Native.Nat.{ℕ, zero, suc, ◌+◌, ◌-◌, ◌≤◌, ◌<◌}
 use native.Mathlib.Numerals.{add-one}
 use native.Mathlib.Omega.{arith}
-use lib.ListN.{length, get_or}
+use lib.ListN.{length, get_or, take, drop, replicate}
+use lib.Seq.{length-take-le}
 use Rattle.records.specs.Laws.Bounded.{count-all}
 use Rattle.records.specs.Model.Lists.{put}
 use Rattle.records.specs.Laws.Lists.{put_ext, put_self, get_d_put-front}
 use Rattle.rounds.specs.Model.TableRounds.{round, rounds, kept_count, Settled}
 use Rattle.rounds.specs.Model.InPlace.{Rounded}
-use Rattle.rounds.specs.Laws.TableRounds.{Stable, length-round, length-rounds, in_first, entry_most, fewer, quiet_stable, stable_round, stable_settled}
+use Rattle.rounds.specs.Laws.TableRounds.{Stable, length-rounds, in_first, entry_most, fewer, quiet_stable, stable_round, stable_settled}
+
+-- a front that was filled with zeros
+pub front_cleared : (d : List ℕ) (n : ℕ) → n ≤ length d → replicate n 0 ++ drop n d ≡ put d n (λ k. 0)
+unfolding put
+front_cleared [] zero h = refl
+front_cleared [] (suc n) h = absurd (omega arith)
+front_cleared (x ∷ d) zero h = refl
+front_cleared (x ∷ d) (suc n) h = ap (λ (t : List ℕ). 0 ∷ t) (front_cleared d n (omega arith))
 
 -- the rounds from the entries all 0 are the rounds from any memory
 module _ (cells : List ℕ) (n ins outs : ℕ) (memory : List ℕ) (room : n ≤ length memory) where
@@ -30,6 +39,12 @@ module _ (cells : List ℕ) (n ins outs : ℕ) (memory : List ℕ) (room : n ≤
 pub record Began (n : ℕ) (memory start : List ℕ) : Type 0 where
   pub room : n ≤ length memory
   pub cleared : start ≡ put memory n (λ k. 0)
+
+-- so it does where the front was filled with zeros
+pub filled : {n : ℕ} {memory front : List ℕ} → n ≤ length memory → front ≡ replicate (length (take n memory)) 0
+    → Began n memory (front ++ drop n memory)
+filled {n} {memory} room e =
+    record { room = room; cleared = rw (e, length-take-le n memory room) (front_cleared memory n room) }
 
 -- after so many rounds from `start`, each of which dropped a state
 pub record Settling (cells : List ℕ) (n ins outs : ℕ) (start now : List ℕ) (kept made : ℕ) : Type 0 where
@@ -74,15 +89,6 @@ module _ {cells : List ℕ} {n ins outs : ℕ} {memory start now after : List �
   -- what it made
   is_round : after ≡ round cells n ins outs (suc made) now
   is_round = t.turn.entries ∙ rw (add-one made)
-
-  pub same_after : length after ≡ length memory
-  same_after = rw is_round (length-round cells n ins outs (suc made) now ∙ same t.began t.inv)
-
-  pub lost_most : lost ≤ kept
-  lost_most = omega (arith, t.turn.counted, t.inv.counted)
-
-  pub less : (lost ≡ 0 → ⊥) → kept - lost < kept
-  less ne = omega (arith, lost_most)
 
   pub go : (lost ≡ 0 → ⊥) → Settling cells n ins outs start after (kept - lost) (made + 1)
   unfolding rounds

@@ -1,5 +1,6 @@
 -- Definitions that go the way the code goes.
 pub mod Layout
+pub mod Meant
 pub mod Where
 pub mod HeadRecord
 pub mod Reader

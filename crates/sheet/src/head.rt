@@ -4,16 +4,21 @@ ghost use Rattle.records.specs.Meaning.Limits.{max_inputs, max_outputs};
 ghost use Rattle.sheet_fields.specs.Meaning.Places.{site_at, outputs_at, literals_from};
 ghost use Rattle.sheet.specs.Model.HeadRecord.{head_sheet, read_head};
 
-use crate::layout::{Monitor, Reading, Refusal, Sheet};
+use crate::layout::{Monitor, Refusal, Sheet};
 use records::limits::{Limits, horizon_ok};
+use sheet_fields::body::Body;
 use sheet_fields::head::{guard_lines, head_ok, literal_at};
 
 // The sheet of a head that is in order, with no monitors yet.
-pub fn head_sheet(s: &[u8], start: usize) -> Sheet
-    requires { (site_at s.now start ≤ max_inputs) × ((outputs_at s.now start ≤ max_outputs) ×
-        (literals_from start + outputs_at s.now start ≤ length s.now)) }
-    ensures { result ≡ head_sheet s.now start }
+#[tactic(auto, unfolding(crate::specs::Model::HeadRecord::head_sheet))]
+fn head_sheet(body: &Body) -> Sheet
+    requires { (site_at body.now.bytes.now body.now.start ≤ max_inputs) ×
+        ((outputs_at body.now.bytes.now body.now.start ≤ max_outputs) ×
+        (literals_from body.now.start + outputs_at body.now.bytes.now body.now.start ≤ length body.now.bytes.now)) }
+    ensures { result ≡ head_sheet body.now.bytes.now body.now.start }
 {
+    let s = body.bytes;
+    let start = body.start;
     let outputs = s[start + 2];
     let none = Monitor::none();
     Sheet {
@@ -34,16 +39,18 @@ pub fn head_sheet(s: &[u8], start: usize) -> Sheet
 }
 
 // A head's body, refused 3 before 6.
-pub fn read_head(s: &[u8], start: usize, size: usize) -> Reading
-    requires { start + size ≤ length s.now }
-    ensures { result ≡ read_head s.now start size }
+#[tactic(auto, using(records::specs::Laws::Tests::cases), unfolding(crate::specs::Model::HeadRecord::read_head))]
+pub fn read_head(body: &Body) -> Result<Sheet, Refusal>
+    ensures { result ≡ read_head body.now.bytes.now body.now.start body.now.size }
 {
-    if !head_ok(s, start, size) {
-        return Reading::refused(Refusal::BadHead);
+    if !head_ok(body) {
+        return Err(Refusal::BadHead);
     }
+    let s = body.bytes;
+    let start = body.start;
     let inputs = guard_lines(s[start], s[start + 1], s[start + 2]);
     if !horizon_ok(inputs, s[start + 3]) {
-        return Reading::refused(Refusal::LongHorizon);
+        return Err(Refusal::LongHorizon);
     }
-    Reading::accepted(head_sheet(s, start))
+    Ok(head_sheet(body))
 }

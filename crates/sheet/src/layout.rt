@@ -1,12 +1,19 @@
 // What a reader knows of a sheet: its numbers, and where the monitors lie in its bytes.
-ghost use Rattle.std.specs.Prelude.{◌≡◌, ◌<◌};
-ghost use Rattle.records.specs.Meaning.Limits.{max_monitors};
-ghost use Rattle.sheet.specs.Model.Layout.{no_monitor, blank, with_monitor, accepted, refused};
+ghost use Rattle.std.specs.Prelude.{◌≡◌, ◌+◌, ◌<◌, ◌≤◌};
+ghost use Rattle.records.specs.Meaning.Limits.{max_lines, max_monitors};
+ghost use Rattle.sheet.specs.Model.Layout.{no_monitor, with_monitor};
 ghost use Rattle.sheet.specs.Meaning.Grounds.{ground_number};
+ghost use Rattle.sheet.specs.Laws.Grounds.{number_positive};
+ghost use Rattle.sheet.specs.declared.layout.Refusal.TheVariants as refusal;
+ghost use Rattle.sheet.specs.Model.Where.{Fits, width};
 
+use records::cursor::Truncated;
 use records::limits::Limits;
+use records::numbered::Numbered;
+use sheet_fields::monitor::letters_read;
 
-// One monitor: its numbers, and where its accept bytes and its rows of next states begin.
+// One monitor: its numbers, and where its accept bytes and its rows of next states begin. The role stays the sheet's byte, which
+// is told by a match with a range for the refused rest: the papers' form.
 #[derive(Clone, Copy)]
 pub struct Monitor {
     pub role: u8,
@@ -18,7 +25,9 @@ pub struct Monitor {
 }
 
 // A sheet. `site` lines come from the site, `inputs` is the guard's number of input lines, `matching` is the match
-// weight. The first `outputs` literals and the first `count` monitors are the sheet's.
+// weight. The first `outputs` literals and the first `count` monitors are the sheet's: arrays with a length, since memory is fixed and
+// there is no heap. The mode stays the sheet's byte, as roles and kinds do in the papers' form: tables' heads take it as it was read,
+// so an enum would be made here only to be turned back there.
 #[derive(Clone, Copy)]
 pub struct Sheet {
     pub mode: u8,
@@ -32,55 +41,49 @@ pub struct Sheet {
     pub count: usize,
 }
 
-// The grounds on which a maker refuses.
+// A sheet that was read, and the bytes in which its monitors lie.
 #[derive(Clone, Copy)]
-pub enum Refusal {
-    Truncated,
-    Misplaced,
-    BadHead,
-    BadMonitor,
-    SeventhMonitor,
-    LongHorizon,
-    TooManyStates,
-    Unrealizable,
-    ShortResult,
-    ShortWork,
+pub struct ReadSheet<'a> {
+    pub bytes: &'a [u8],
+    pub layout: Sheet,
+    ghost fits: { Fits bytes.now layout },
 }
 
-impl Refusal {
-    // Document 01's number of the ground.
-    pub fn number(self) -> u8
-        ensures { result ≡ ground_number self }
-    {
-        match self {
-            Refusal::Truncated => 1,
-            Refusal::Misplaced => 2,
-            Refusal::BadHead => 3,
-            Refusal::BadMonitor => 4,
-            Refusal::SeventhMonitor => 5,
-            Refusal::LongHorizon => 6,
-            Refusal::TooManyStates => 7,
-            Refusal::Unrealizable => 8,
-            Refusal::ShortResult => 9,
-            Refusal::ShortWork => 10,
-        }
+// The grounds on which a maker refuses, with document 01's numbers.
+#[derive(Clone, Copy, Debug, PartialEq, Eq)]
+pub enum Refusal {
+    Truncated = 1,
+    Misplaced = 2,
+    BadHead = 3,
+    BadMonitor = 4,
+    SeventhMonitor = 5,
+    LongHorizon = 6,
+    TooManyStates = 7,
+    Unrealizable = 8,
+    ShortResult = 9,
+    ShortWork = 10,
+}
+
+impl Numbered for Refusal {
+    ghost number_of = { ground_number };
+
+    ghost refuses = { number_positive };
+
+    fn number(self) -> u8 {
+        self as u8
     }
 }
 
-#[derive(Clone, Copy)]
-pub enum Verdict {
-    Accepted,
-    Refused(Refusal),
-}
+impl From<Truncated> for Refusal {
+    ghost from_gives = { λ _ cause. cause ≡ refusal.Truncated };
 
-// A verdict, with the sheet that was read; on a refusal the blank sheet.
-#[derive(Clone, Copy)]
-pub struct Reading {
-    pub sheet: Sheet,
-    pub verdict: Verdict,
+    fn from(_cut: Truncated) -> Refusal {
+        Refusal::Truncated
+    }
 }
 
 impl Monitor {
+    #[tactic(auto, unfolding(crate::specs::Model::Layout::no_monitor))]
     pub fn none() -> Monitor
         ensures { result ≡ no_monitor }
     {
@@ -96,24 +99,16 @@ impl Monitor {
 }
 
 impl Sheet {
-    pub fn blank() -> Sheet
-        ensures { result ≡ blank }
+    // The letters that one of its monitors reads.
+    pub fn width(self, m: Monitor) -> usize
+        requires { self.site + self.outputs ≤ max_lines }
+        ensures { result ≡ width self m }
     {
-        let none = Monitor::none();
-        Sheet {
-            mode: 0,
-            site: 0,
-            inputs: 0,
-            outputs: 0,
-            horizon: 0,
-            matching: 0,
-            literals: [0; Limits::OUTPUTS as usize],
-            monitors: [none; Limits::MONITORS],
-            count: 0,
-        }
+        letters_read(m.role, self.site, self.outputs)
     }
 
     // The sheet with one more monitor.
+    #[tactic(auto, unfolding(crate::specs::Model::Layout::with_monitor))]
     pub fn with_monitor(self, m: Monitor) -> Sheet
         requires { self.count < max_monitors }
         ensures { result ≡ with_monitor self m }
@@ -123,25 +118,5 @@ impl Sheet {
         next.monitors[at] = m;
         next.count = at + 1;
         next
-    }
-}
-
-impl Reading {
-    pub fn accepted(sheet: Sheet) -> Reading
-        ensures { result ≡ accepted sheet }
-    {
-        Reading {
-            sheet,
-            verdict: Verdict::Accepted,
-        }
-    }
-
-    pub fn refused(cause: Refusal) -> Reading
-        ensures { result ≡ refused cause }
-    {
-        Reading {
-            sheet: Sheet::blank(),
-            verdict: Verdict::Refused(cause),
-        }
     }
 }

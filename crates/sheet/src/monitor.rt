@@ -5,39 +5,40 @@ ghost use Rattle.sheet_fields.specs.Meaning.Places.{accept_from};
 ghost use Rattle.sheet_fields.specs.Meaning.Monitor.{monitor_ok};
 ghost use Rattle.sheet.specs.Model.MonitorRecord.{monitor_at, take_monitor};
 
-use crate::layout::{Monitor, Reading, Refusal, Sheet};
+use crate::layout::{Monitor, Refusal, Sheet};
 use records::limits::Limits;
+use sheet_fields::body::Body;
 use sheet_fields::monitor::{bytes_most, letters_read, role_ok, states_ok};
 use sheet_fields::places::Fixed;
 
 // Whether a monitor's body is in order; its tables are looked at only where its numbers are.
-pub fn monitor_ok(s: &[u8], sheet: Sheet, start: usize, size: usize) -> bool
-    requires { (sheet.site + sheet.outputs ≤ max_lines) × (start + size ≤ length s.now) }
-    ensures { result ≡ monitor_ok s.now sheet.mode sheet.site sheet.outputs start size }
+#[tactic(auto, using(records::specs::Laws::Tests::cases), unfolding(sheet_fields::specs::Meaning::Monitor::monitor_ok))]
+pub fn monitor_ok(body: &Body, sheet: Sheet) -> bool
+    requires { sheet.site + sheet.outputs ≤ max_lines }
+    ensures { result ≡ monitor_ok body.now.bytes.now sheet.mode sheet.site sheet.outputs body.now.start body.now.size }
 {
-    if size < Fixed::MONITOR {
+    if body.size < Fixed::MONITOR {
         return false;
     }
-    if !role_ok(sheet.mode, s[start], s[start + 1]) {
-        return false;
-    }
+    let s = body.bytes;
+    let start = body.start;
     let letters = letters_read(s[start], sheet.site, sheet.outputs);
     let states = s[start + 2];
-    if !states_ok(states, s[start + 3], letters, size) {
-        return false;
-    }
     let n = states as usize;
-    if !bytes_most(s, start + Fixed::MONITOR, n, 1) {
-        return false;
-    }
-    bytes_most(s, start + Fixed::MONITOR + n, n * letters, states - 1)
+    role_ok(sheet.mode, s[start], s[start + 1])
+        && states_ok(states, s[start + 3], letters, body.size)
+        && bytes_most(s, start + Fixed::MONITOR, n, 1)
+        && bytes_most(s, start + Fixed::MONITOR + n, n * letters, states - 1)
 }
 
 // The monitor of a body.
-pub fn monitor_at(s: &[u8], start: usize) -> Monitor
-    requires { accept_from start ≤ length s.now }
-    ensures { result ≡ monitor_at s.now start }
+#[tactic(auto, unfolding(crate::specs::Model::MonitorRecord::monitor_at))]
+fn monitor_at(body: &Body) -> Monitor
+    requires { accept_from body.now.start ≤ length body.now.bytes.now }
+    ensures { result ≡ monitor_at body.now.bytes.now body.now.start }
 {
+    let s = body.bytes;
+    let start = body.start;
     let states = s[start + 2];
     Monitor {
         role: s[start],
@@ -50,15 +51,16 @@ pub fn monitor_at(s: &[u8], start: usize) -> Monitor
 }
 
 // A monitor's record, refused 5 before 4.
-pub fn take_monitor(s: &[u8], sheet: Sheet, start: usize, size: usize) -> Reading
-    requires { (sheet.site + sheet.outputs ≤ max_lines) × (start + size ≤ length s.now) }
-    ensures { result ≡ take_monitor s.now sheet start size }
+#[tactic(auto, using(records::specs::Laws::Tests::cases), unfolding(crate::specs::Model::MonitorRecord::take_monitor))]
+pub fn take_monitor(body: &Body, sheet: Sheet) -> Result<Sheet, Refusal>
+    requires { sheet.site + sheet.outputs ≤ max_lines }
+    ensures { result ≡ take_monitor body.now.bytes.now sheet body.now.start body.now.size }
 {
     if Limits::MONITORS <= sheet.count {
-        return Reading::refused(Refusal::SeventhMonitor);
+        return Err(Refusal::SeventhMonitor);
     }
-    if !monitor_ok(s, sheet, start, size) {
-        return Reading::refused(Refusal::BadMonitor);
+    if !monitor_ok(body, sheet) {
+        return Err(Refusal::BadMonitor);
     }
-    Reading::accepted(sheet.with_monitor(monitor_at(s, start)))
+    Ok(sheet.with_monitor(monitor_at(body)))
 }

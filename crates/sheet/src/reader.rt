@@ -5,86 +5,67 @@ ghost use Rattle.sheet.specs.Model.Reader.{take_record, read_records, reading};
 ghost use Rattle.sheet.specs.Promises.Reader.{Reads};
 
 use crate::head::read_head;
-use crate::layout::{Reading, Refusal, Sheet, Verdict};
+use crate::layout::{Refusal, Sheet};
 use crate::monitor::take_monitor;
-use records::cursor::{Cursor, Found};
+use records::cursor::Cursor;
+use sheet_fields::body::Body;
 
-// A record after the head.
-pub fn take_record(s: &[u8], sheet: Sheet, kind: u16, start: usize, size: usize) -> Reading
-    requires { (sheet.site + sheet.outputs ≤ max_lines) × (start + size ≤ length s.now) }
-    ensures { result ≡ take_record s.now sheet kind start size }
+// A record after the head, told by the number of its kind with a range for the refused rest: the papers' form.
+#[tactic(auto, using(records::specs::Laws::Tests::cases), unfolding(crate::specs::Model::Reader::take_record))]
+pub fn take_record(body: &Body, sheet: Sheet, kind: u16) -> Result<Sheet, Refusal>
+    requires { sheet.site + sheet.outputs ≤ max_lines }
+    ensures { result ≡ take_record body.now.bytes.now sheet (record { kind = kind; start = body.now.start; size = body.now.size }) }
 {
     match kind {
-        2 => take_monitor(s, sheet, start, size),
-        0 | 1 | 3..=65535 => Reading::refused(Refusal::Misplaced),
+        2 => take_monitor(body, sheet),
+        0 | 1 | 3..=65535 => Err(Refusal::Misplaced),
     }
 }
 
 // The records after the head.
-pub fn read_records(s: &[u8], head: Sheet, from: usize) -> Reading
+pub fn read_records(s: &[u8], head: Sheet, from: Cursor) -> Result<Sheet, Refusal>
     requires { head.site + head.outputs ≤ max_lines }
-    ensures { result ≡ read_records (suc (length s.now)) s.now head from }
+    ensures { result ≡ read_records (suc (length s.now)) s.now head from.at }
 {
     let mut sheet = head;
-    let mut at = from;
-    loop {
-        let cursor = Cursor { at };
-        match cursor.read(s) {
-            Found::End => return Reading::accepted(sheet),
-            Found::Truncated => return Reading::refused(Refusal::Truncated),
-            Found::Record {
-                kind,
-                start,
-                size,
-                next,
-            } => {
-                let taken = take_record(s, sheet, kind, start, size);
-                let verdict = taken.verdict;
-                match verdict {
-                    Verdict::Accepted => {
-                        let grown = taken.sheet;
-                        sheet = grown;
-                        at = next.at;
-                    }
-                    Verdict::Refused(ground) => return Reading::refused(ground),
-                }
-            }
-        }
+    let mut cursor = from;
+    while let Some(found) = cursor.read(s)? {
+        let body = Body {
+            bytes: s,
+            start: found.start,
+            size: found.size,
+        };
+        sheet = take_record(&body, sheet, found.kind)?;
     }
+    Ok(sheet)
 }
 
 // A sheet is read, or refused by one of grounds 1 to 6.
-pub fn read(s: &[u8]) -> Reading
+pub fn read(s: &[u8]) -> Result<Sheet, Refusal>
     ensures { Reads s.now result }
 {
     read_in_turn(s)
 }
 
-// The head, then the records after it.
-pub fn read_in_turn(s: &[u8]) -> Reading
+// The head, then the records after it. The first record's kind is told as take_record tells it, with a range for the
+// refused rest: the papers' form.
+pub fn read_in_turn(s: &[u8]) -> Result<Sheet, Refusal>
     ensures { result ≡ reading s.now }
 {
-    match Cursor::first().read(s) {
-        Found::End => Reading::refused(Refusal::Misplaced),
-        Found::Truncated => Reading::refused(Refusal::Truncated),
-        Found::Record {
-            kind,
-            start,
-            size,
-            next,
-        } => match kind {
-            1 => {
-                let head = read_head(s, start, size);
-                let verdict = head.verdict;
-                match verdict {
-                    Verdict::Accepted => {
-                        let sheet = head.sheet;
-                        read_records(s, sheet, next.at)
-                    }
-                    Verdict::Refused(ground) => Reading::refused(ground),
-                }
-            }
-            0 | 2..=65535 => Reading::refused(Refusal::Misplaced),
-        },
+    let mut cursor = Cursor::first();
+    let Some(record) = cursor.read(s)? else {
+        return Err(Refusal::Misplaced);
+    };
+    match record.kind {
+        1 => {
+            let body = Body {
+                bytes: s,
+                start: record.start,
+                size: record.size,
+            };
+            let head = read_head(&body)?;
+            read_records(s, head, cursor)
+        }
+        0 | 2..=65535 => Err(Refusal::Misplaced),
     }
 }

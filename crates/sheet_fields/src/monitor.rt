@@ -9,6 +9,7 @@ use records::limits::Limits;
 use records::numbers::pow2;
 
 // Whether role and weight are in order: hard with no weight, soft with one, a limit in mode 1 with none.
+// The role stays the sheet's byte, with a range for the refused rest: the papers' form.
 #[tactic(auto, using(records::specs::Laws::Tests::cases), unfolding(crate::specs::Meaning::Monitor::role_ok))]
 pub fn role_ok(mode: u8, role: u8, weight: u8) -> bool
     ensures { result ≡ role_ok mode role weight }
@@ -21,7 +22,7 @@ pub fn role_ok(mode: u8, role: u8, weight: u8) -> bool
     }
 }
 
-// The letters that a monitor reads.
+// The letters that a monitor reads, by the byte of its role: the papers' form.
 pub fn letters_read(role: u8, site: u8, outputs: u8) -> usize
     requires { site + outputs ≤ max_lines }
     ensures { (result ≡ letters_read role site outputs) × (result ≤ max_letters) }
@@ -33,21 +34,16 @@ pub fn letters_read(role: u8, site: u8, outputs: u8) -> usize
 }
 
 // Whether states and start are in order, and the body's size is that of as many states and letters.
+#[tactic(auto, using(records::specs::Laws::Tests::cases), unfolding(crate::specs::Meaning::Monitor::states_ok))]
 pub fn states_ok(states: u8, start: u8, letters: usize, size: usize) -> bool
     requires { letters ≤ max_letters }
     ensures { result ≡ states_ok states start letters size }
 {
-    if states < 1 {
-        return false;
-    }
-    if Limits::MONITOR_STATES < states {
-        return false;
-    }
-    if states <= start {
-        return false;
-    }
     let n = states as usize;
-    size == Fixed::MONITOR + n + n * letters
+    1 <= states
+        && states <= Limits::MONITOR_STATES
+        && start < states
+        && size == Fixed::MONITOR + n + n * letters
 }
 
 // Whether each of n bytes is at most `most`.
@@ -55,12 +51,5 @@ pub fn bytes_most(s: &[u8], at: usize, n: usize, most: u8) -> bool
     requires { at + n ≤ length s.now }
     ensures { result ≡ bytes_most s.now at n most }
 {
-    let mut k = 0;
-    while k < n {
-        if most < s[at + k] {
-            return false;
-        }
-        k += 1;
-    }
-    true
+    s[at..at + n].iter().all(|b| *b <= most)
 }

@@ -1,6 +1,6 @@
 // Where the parts of a record's body stand.
 
-// The fixed parts of bodies.
+// The fixed parts of bodies: associated constants, as the papers have them.
 #[derive(Clone, Copy)]
 pub struct Fixed {}
 

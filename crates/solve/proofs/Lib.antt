@@ -1,4 +1,3 @@
 -- Laws that belong to no one function.
 pub mod SheetSolved
 pub mod Opened
-pub mod Lost

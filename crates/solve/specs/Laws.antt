@@ -7,3 +7,4 @@ pub mod OrderedNumber
 pub mod RefusalOrder
 pub mod Judging
 pub mod Opening
+pub mod OpeningWork

@@ -5,6 +5,7 @@ use mathlib.Core.Bool.{Bool, true}
 use mathlib.Core.List.{List, ◌∷◌, ◌++◌}
 use Prim.Native.Nat.{ℕ, ◌^◌, ◌≤◌, ◌<◌}
 use native.Mathlib.Omega.{arith}
+use Rattle.std.specs.Prelude.{Result, Ok, Err}
 use lib.ListN.{length}
 use lib.Seq.{sets}
 use Rattle.records.specs.Meaning.Work.{long_enough, asked_bytes}
@@ -17,7 +18,8 @@ use Rattle.sheet.specs.Meaning.Decoded.{Decoded}
 use Rattle.sheet.specs.Model.Where.{decoded, Fits}
 use Rattle.sheet.specs.Model.Reader.{reading}
 use Rattle.sheet.specs.Promises.Reader.{Reads}
-use Rattle.sheet.specs.Laws.Reading.{reads, only_sheet}
+use Rattle.sheet.specs.Laws.Reading.{reads}
+use Rattle.solve.specs.Laws.RefusalOrder.{only_read}
 use Rattle.sheet.specs.declared.layout.Sheet.{Sheet}
 use Rattle.sheet.specs.declared.layout.Refusal.TheVariants as ground
 use Rattle.product.specs.Meaning.Step.{inputs_of, outputs_of}
@@ -36,7 +38,7 @@ use Rattle.supervisor.specs.Laws.Permissive.{means}
 use Rattle.supervisor.specs.Laws.Only.{only_table}
 use Rattle.solve.specs.Laws.Judging.{Only, judges_short, judges_made, makes, accepted_layout, written_front}
 use Rattle.solve.specs.declared.made.Made.{Made}
-use Rattle.solve.specs.declared.made.Made.TheVariants.{Table, Refused}
+use Rattle.sheet.specs.declared.layout.Refusal.{Refusal}
 
 -- ---- the returns, once the sheet is solved
 
@@ -54,13 +56,13 @@ module _
 
     -- the result is too short
     pub solved_short : start ≡ true → length before < mask_table_length (inputs_of d) n
-        → Judges supervisor_table state_count d before (Refused ground.ShortResult) before
+        → Judges supervisor_table state_count d before (Err ground.ShortResult) before
     solved_short e h =
         judges_short supervisor_table state_count d before few (sym solution.start_kept ∙ e) (omega (arith, size_is))
 
     -- head and rows are written
     pub solved_made : start ≡ true → mask_table_length (inputs_of d) n ≤ length before
-        → Judges supervisor_table state_count d before (Table (mask_table_length (inputs_of d) n) n)
+        → Judges supervisor_table state_count d before (Ok (record { length = mask_table_length (inputs_of d) n; states = n }))
         (sets (sets before 0 (table_head d n)) 9 (cat n (table_row cells dropped (inputs_of d) (outputs_of d))))
     unfolding table_of table_head
     solved_made e h =
@@ -75,21 +77,21 @@ pub layout_made : {s : List ℕ} {h : Sheet} → Fits s h
     → {n kept : ℕ} {start : Bool} {tuples cells dropped : List ℕ} → Solution (decoded s h) n kept start tuples cells dropped
     → (before : List ℕ) (ins outs size : ℕ) → ins ≡ 2 ^ h.inputs → outs ≡ 2 ^ h.outputs
     → start ≡ true → size ≡ mask_table_length ins n → size ≤ length before
-    → Judges supervisor_table state_count (decoded s h) before (Table size n)
+    → Judges supervisor_table state_count (decoded s h) before (Ok (record { length = size; states = n }))
     (sets (sets before 0 (header 5 19 ++ (h.mode ∷ h.inputs ∷ h.outputs ∷ u16_bytes n))) 9 (cat n (table_row cells dropped ins outs)))
 layout_made {s} {h} fits {n} {kept} {start} {tuples} {cells} {dropped} solution before ins outs size i o e is room =
     let ins_are : ins ≡ inputs_of (decoded s h) = i ∙ layout_inputs fits in
     let outs_are : outs ≡ outputs_of (decoded s h) = o ∙ layout_outputs s h in
     let whole : size ≡ mask_table_length (inputs_of (decoded s h)) n = is ∙ ap (λ (x : ℕ). mask_table_length x n) ins_are in
     rw (ins_are, outs_are, whole)
-    (subst (λ (l : List ℕ). Judges supervisor_table state_count (decoded s h) before (Table (mask_table_length (inputs_of (decoded s h)) n) n)
+    (subst (λ (l : List ℕ). Judges supervisor_table state_count (decoded s h) before (Ok (record { length = mask_table_length (inputs_of (decoded s h)) n; states = n }))
     (sets (sets before 0 l) 9 (cat n (table_row cells dropped (inputs_of (decoded s h)) (outputs_of (decoded s h))))))
     (sym (layout_head fits n)) (solved_made solution before e (omega arith)))
 
 -- ---- the promise
 
 -- the whole promise, from the answer by the model
-pub supervisor_makes : {s before : List ℕ} {r : Made} {after : List ℕ} (lent : List ℕ)
+pub supervisor_makes : {s before : List ℕ} {r : Result Made Refusal} {after : List ℕ} (lent : List ℕ)
     → Answers supervisor_table state_count (long_enough supervisor_work lent) s before r after
     → Reads s (reading s) → Only s → MakesSupervisor s before lent r after
 unfolding asked_bytes
@@ -111,6 +113,6 @@ supervisor_makes {s} {before} {r} {after} lent answers read only =
     table_means d a = means d (accepted_layout a) a.sheet.in_bounds a.realizable
 
 -- the same of any bytes, by the laws of the reader
-pub supervisor_promise : {s before : List ℕ} {r : Made} {after : List ℕ} (lent : List ℕ) → Bytes s
+pub supervisor_promise : {s before : List ℕ} {r : Result Made Refusal} {after : List ℕ} (lent : List ℕ) → Bytes s
     → Answers supervisor_table state_count (long_enough supervisor_work lent) s before r after → MakesSupervisor s before lent r after
-supervisor_promise {s} lent bytes answers = supervisor_makes lent answers (reads s bytes) (only_sheet s)
+supervisor_promise {s} lent bytes answers = supervisor_makes lent answers (reads s bytes) (only_read s)

@@ -3,32 +3,33 @@
 use mathlib.Core.Path.{◌≡◌, ◌∙◌}
 use mathlib.Core.Bool.{true, false}
 use mathlib.Core.List.{List}
+use Rattle.std.specs.Prelude.{Some, None}
 use Prim.Native.Nat.{ℕ, ◌+◌, ◌*◌, ◌^◌, ◌≤◌, ◌<◌, max}
 use native.Mathlib.Omega.{arith}
 use Rattle.records.specs.Meaning.Bounded.{sum}
 use Rattle.records.specs.Laws.Bounded.{sum_more, sum_most, top_more}
-use Rattle.records.specs.Laws.Tests.{by_test}
 use Rattle.records.specs.Model.Bounded.{top}
 use Rattle.rounds.specs.Model.TableRounds.{is_in}
 use Rattle.values.specs.Model.Values.{Game, may_give, score_of, worth}
 use Rattle.values.specs.Model.Sizes.{Ready, best_of}
 use Rattle.values.specs.Model.Arrivals.{offer_of}
-use Rattle.values.specs.declared.values.Offer.{Offer}
+use Rattle.values.specs.Laws.Arrivals.{offered, refused}
 use Rattle.values.specs.Laws.Growth.{best_most}
 
 -- the best score of the outputs before o
 abbrev pub best_before : Game → List ℕ → ℕ → ℕ → ℕ → ℕ → ℕ
 best_before g arrivals factor k i o = top o (may_give g k i) (score_of g arrivals factor k i)
 
--- and with what output o offers
-pub best_more : (g : Game) (arrivals : List ℕ) (factor k i o : ℕ) {offer : Offer} {best best' : ℕ}
-    → offer ≡ offer_of g arrivals factor k i o → best ≡ best_before g arrivals factor k i o → best' ≡ max best offer.score
-    → best' ≡ best_before g arrivals factor k i (o + 1)
-unfolding offer_of
-best_more g arrivals factor k i o e b m =
-    m
-    ∙ rw (e, b, top_more)
-    (by_test (may_give g k i o) (λ may. rw may) (λ may. rw may (omega arith)))
+module _ (g : Game) (arrivals : List ℕ) (factor k i o : ℕ) where
+  -- and with what output o offers
+  pub best_more : {score best best' : ℕ} → Some score ≡ offer_of g arrivals factor k i o
+      → best ≡ best_before g arrivals factor k i o → best' ≡ max best score → best' ≡ best_before g arrivals factor k i (o + 1)
+  best_more e b m =
+      let h = offered g arrivals factor k i o e in m ∙ rw (h.1, b, top_more, h.0)
+
+  pub best_same : None ≡ offer_of g arrivals factor k i o → {best : ℕ} → best ≡ best_before g arrivals factor k i o
+      → best ≡ best_before g arrivals factor k i (o + 1)
+  best_same e b = let shut = refused g arrivals factor k i o e in b ∙ rw (top_more, shut)
 
 -- ---- the sum over inputs
 

@@ -12,7 +12,7 @@ use Rattle.records.specs.Laws.Lists.{put-put, put_ext, length-put}
 use Rattle.values.specs.Model.Values.{Game, SizedGame, worth, value_row}
 use Rattle.values.specs.Model.Sizes.{Valued}
 use Rattle.values.specs.Model.Arrivals.{arrival, Prepared, Gained}
-use Rattle.values.specs.Laws.Growth.{row_none, row_more, length-row, row_over, row_valued, words_mono}
+use Rattle.values.specs.Laws.Growth.{row_none, row_more, row_over, row_valued, words_mono}
 use Rattle.values.specs.Laws.Arrivals.{bare, prepared, arrival-worth, arrivals_valued}
 
 -- `memory` and `spare` are values and arrivals as the loop found them
@@ -56,9 +56,6 @@ module _
     {g : Game} {n horizon : ℕ} {memory spare values arrivals : List ℕ} {factor p : ℕ}
     (fits : Fits g n horizon memory spare) (r : Iterated g n horizon memory spare values arrivals factor p)
   where
-    pub same : length values ≡ length memory
-    same = rw r.row (length-row g n memory p)
-
     steps_few : (p ≤ 24) × (g.ins ^ p ≤ 2 ^ 24)
     steps_few = (omega (arith, r.within, fits.steps), words_mono g fits.sized r.within fits.few)
 
@@ -73,11 +70,8 @@ module _
     )
 
     -- a factor more is one of the numbers of words up to the horizon
-    pub words_more : p < horizon → factor * g.ins ≡ g.ins ^ (p + 1)
+    words_more : p < horizon → factor * g.ins ≡ g.ins ^ (p + 1)
     words_more h = rw (r.words, add-one) (sym (pow-suc g.ins p))
-
-    pub words_most : p < horizon → factor * g.ins ≤ 2 ^ 24
-    words_most h = rw (words_more h) (words_mono g fits.sized {p = p + 1} (omega arith) fits.few)
 
     -- with arrivals prepared
     module _ {arrivals' : List ℕ} (e : arrivals' ≡ put arrivals n (arrival g.gains values factor)) where

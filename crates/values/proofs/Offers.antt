@@ -6,13 +6,13 @@ use mathlib.Core.List.{List, []}
 use Prim.Native.Nat.{ℕ, ◌+◌, ◌*◌, ◌≤◌, ◌<◌}
 use native.Mathlib.Omega.{arith}
 use lib.ListN.{length, get_or}
+use Rattle.std.specs.Prelude.{Some, None}
 use Rattle.rounds.specs.Model.TableRounds.{cell_at, leads_in}
 use Rattle.rounds.specs.Laws.CellPlaces.{max_index, InRow, CellLeads, in_row, leads_at}
 use Rattle.values.specs.Model.Values.{Game, may_give, cell_next, score_of}
 use Rattle.values.specs.Model.Sizes.{Ready}
 use Rattle.values.specs.Model.Arrivals.{score_in, Scored, offer_of}
 use Rattle.values.specs.Laws.Sizes.{steps_of, entered, cell_letter_low, next_low, scored_at, score_read}
-use Rattle.values.specs.declared.values.Offer.{Offer}
 
 -- what reading the cell of output o, and the bonus of its letter, asks
 pub record Asked (g : Game) (k i o : ℕ) : Type 0 where
@@ -55,13 +55,12 @@ module _ (g : Game) (arrivals : List ℕ) (factor k i o : ℕ) {a : ℕ} (q : a 
   unfolding cell_next
   score-found none e f = f ∙ rw (e, q) (score_read g none arrivals factor k i o)
 
-  pub offer_none : {offer : Offer} → leads_in g.cells g.dropped a ≡ false → offer ≡ record { allowed = false; score = 0 }
-      → offer ≡ offer_of g arrivals factor k i o
+  pub offer_none : leads_in g.cells g.dropped a ≡ false → None ≡ offer_of g arrivals factor k i o
   unfolding offer_of
-  offer_none may e = e ∙ rw (may_at may)
+  offer_none may = rw (may_at may)
 
-  pub offer_made : {to score : ℕ} {offer : Offer} → g.gains ≡ [] → leads_in g.cells g.dropped a ≡ true
+  pub offer_made : {to score : ℕ} → g.gains ≡ [] → leads_in g.cells g.dropped a ≡ true
       → to ≡ get_or g.cells a 0 → score ≡ score_in g.bonuses arrivals factor to (i + g.ins * o)
-      → offer ≡ record { allowed = true; score = score } → offer ≡ offer_of g arrivals factor k i o
+      → Some score ≡ offer_of g arrivals factor k i o
   unfolding offer_of
-  offer_made none may e f m = m ∙ rw (may_at may, score-found none e f)
+  offer_made none may e f = rw (may_at may, score-found none e f)

@@ -5,4 +5,5 @@ pub mod GuardStates
 pub mod GuardNumbering
 pub mod Sizes
 pub mod Arrivals
+pub mod Tables
 pub mod Leaders

@@ -1,94 +1,66 @@
 // The choice of an output: the largest score, and among those the highest in the sheet's output order.
 ghost use Rattle.std.specs.Prelude.{◌≡◌, ◌<◌};
-ghost use Rattle.values.specs.Model.Sizes.{Ready};
-ghost use Rattle.values.specs.Model.Arrivals.{arrival_game, ranked_choice};
-ghost use Rattle.values.specs.Model.Leaders.{goes_before, no_leader, challenged};
+ghost use Rattle.values.specs.Model.Arrivals.{ranked_choice};
+ghost use Rattle.values.specs.Model.Leaders.{goes_before, challenged};
+ghost use Rattle.values.specs.Model.Tables.{game_in};
 
-use crate::values::offer_of;
+use crate::values::ReadyGame;
 use records::limits::Limits;
 
-// The output that leads so far, with its score and its rank; none at first.
+// An output with its score and its rank: a candidate, and the one that leads so far, where one does.
 #[derive(Clone, Copy)]
 pub struct Leader {
-    pub found: bool,
     pub output: usize,
     pub score: u64,
     pub rank: usize,
 }
 
 // Whether a candidate goes before the leader: a larger score, or the same and a larger rank.
+#[tactic(auto, unfolding(crate::specs::Model::Leaders::goes_before))]
 pub fn goes_before(score: u64, rank: usize, best: u64, highest: usize) -> bool
     ensures { result ≡ goes_before score rank best highest }
 {
-    if best < score {
-        return true;
-    }
-    if best == score {
-        return highest < rank;
-    }
-    false
+    (score, rank) > (best, highest)
 }
 
 impl Leader {
-    // No output leads yet.
-    pub fn none() -> Leader
-        ensures { result ≡ no_leader }
+    // The leader after this candidate has been compared with the one so far, if there is one.
+    #[tactic(auto, unfolding(crate::specs::Model::Leaders::challenged))]
+    pub fn against(self, leader: Option<Leader>) -> Leader
+        ensures { result ≡ challenged leader self.output self.score self.rank }
     {
-        Leader {
-            found: false,
-            output: 0,
-            score: 0,
-            rank: 0,
-        }
-    }
-
-    // The leader after a candidate has been compared with it.
-    pub fn against(self, output: usize, score: u64, rank: usize) -> Leader
-        ensures { result ≡ challenged self output score rank }
-    {
-        if self.found {
-            if !goes_before(score, rank, self.score, self.rank) {
-                return self;
+        if let Some(best) = leader {
+            if !goes_before(self.score, self.rank, best.score, best.rank) {
+                return best;
             }
         }
-        Leader {
-            found: true,
-            output: output,
-            score: score,
-            rank: rank,
-        }
+        self
     }
 }
 
-// The choice of a state at an input: outputs in turn, of those allowed the one that leads.
-// `ranks` holds the rank of each output, and `arrivals` what arriving in a state earns and is worth.
-pub fn choose_output(
-    cells: &[u16],
-    dropped: &[u16],
-    bonuses: &[u16],
-    ins: usize,
-    outs: usize,
-    ranks: [usize; Limits::OUTS],
-    arrivals: &[u64],
-    factor: u64,
-    k: usize,
-    i: usize,
-) -> u8
-    requires ready { Ready (arrival_game cells.now dropped.now bonuses.now ins outs) arrivals.now factor k }
-    requires i_lt_ins { i < ins }
-    ensures { result ≡ ranked_choice (arrival_game cells.now dropped.now bonuses.now ins outs) ranks
-        arrivals.now factor k i }
-{
-    let mut leader = Leader::none();
-    let mut o: usize = 0;
-    while o < outs {
-        let offer = offer_of(
-            cells, dropped, bonuses, ins, outs, arrivals, factor, k, i, o,
-        );
-        if offer.allowed {
-            leader = leader.against(o, offer.score, ranks[o]);
+impl ReadyGame<'_> {
+    // The choice of a state at an input: outputs in turn, of those allowed the one that leads; 0 if none is allowed.
+    // `ranks` holds the rank of each output.
+    // A number and no Option: `ranked_choice` has 0 there. The ranks stand beside the game, since values are worked out without them.
+    pub fn choose_output(&self, ranks: [usize; Limits::OUTS], k: usize, i: usize) -> u8
+        requires state { k < self.now.n }
+        requires input { i < self.now.game.steps.ins }
+        ensures { result ≡ ranked_choice (game_in self.now.game) ranks self.now.arrivals.now self.now.factor k i }
+    {
+        let mut leader: Option<Leader> = None;
+        for o in 0..self.game.steps.outs {
+            if let Some(score) = self.offer_of(k, i, o) {
+                let candidate = Leader {
+                    output: o,
+                    score,
+                    rank: ranks[o],
+                };
+                leader = Some(candidate.against(leader));
+            }
         }
-        o += 1;
+        match leader {
+            Some(best) => best.output as u8,
+            None => 0,
+        }
     }
-    leader.output as u8
 }

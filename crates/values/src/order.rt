@@ -24,11 +24,9 @@ pub fn rank_of(literals: [u8; Limits::OUTPUTS as usize], count: usize, o: usize)
     ensures { Ranked literals count o result }
 {
     let mut rank: usize = 0;
-    let mut j: usize = 0;
-    while j < count {
+    for j in 0..count {
         let digit = digit_of(literals[j], o);
         rank = 2 * rank + digit;
-        j += 1;
     }
     rank
 }
@@ -39,10 +37,8 @@ pub fn ranks_of(literals: [u8; Limits::OUTPUTS as usize], count: usize) -> [usiz
     ensures { result ≡ tab max_outs (rank_by literals count) }
 {
     let mut ranks = [0usize; Limits::OUTS];
-    let mut o: usize = 0;
-    while o < Limits::OUTS {
+    for o in 0..Limits::OUTS {
         ranks[o] = rank_of(literals, count, o);
-        o += 1;
     }
     ranks
 }

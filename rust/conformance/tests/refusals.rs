@@ -23,17 +23,27 @@ fn wrapper_and_reference_have_the_same_names_and_numbers() {
     assert_eq!(of_wrapper(), of_reference());
 }
 
-/// The types of Rattle's answers: a maker's refusals, the play's own ground, and what the calls on a board
-/// answer.
-const ANSWERS: [&str; 5] = ["Refusal", "Ground", "Load", "Step", "Change"];
+/// The types of Rattle's grounds: a maker's refusals, the play's own ground, and what the calls on a board
+/// refuse by.
+const GROUNDS: [&str; 5] = ["Refusal", "Ground", "LoadRefusal", "StepRefusal", "ChangeRefusal"];
 
-/// Adds the names that a source gives numbers to, in the form `Type::Name => number,`; 0 is no
-/// refusal.
-fn add_arms(source: &str, names: &mut BTreeMap<u32, String>) {
-    for (arm, number) in source.lines().filter_map(|line| line.trim().split_once(" => ")) {
-        let Some((answer, name)) = arm.split_once("::") else { continue };
+/// Adds the names that a source gives numbers to: as cases `Name = number,` of an enum, or by an arm
+/// `Type::Name => number,`.
+fn add_names(source: &str, names: &mut BTreeMap<u32, String>) {
+    let mut ground = "";
+    for line in source.lines().map(str::trim) {
+        if let Some(name) = line.strip_prefix("pub enum ") {
+            ground = name.trim_end_matches(" {");
+        } else if line == "}" {
+            ground = "";
+        }
+        let case = line.split_once(" = ").map(|(name, number)| (ground, name, number));
+        let arm = line.split_once(" => ").and_then(|(arm, number)| {
+            arm.split_once("::").map(|(ground, name)| (ground, name, number))
+        });
+        let Some((ground, name, number)) = case.or(arm) else { continue };
         let Ok(number) = number.trim_end_matches(',').parse() else { continue };
-        if ANSWERS.contains(&answer) && number != 0 {
+        if GROUNDS.contains(&ground) {
             let before = names.insert(number, name.to_string());
             assert!(before.is_none_or(|before| before == name), "{number} has two names");
         }
@@ -48,7 +58,7 @@ fn rattle_has_the_same_names_and_numbers() {
     for folder in entries(crates) {
         for file in entries(&folder.path().join("src")) {
             let source = fs::read_to_string(file.path()).expect("a source is a text");
-            add_arms(&source, &mut names);
+            add_names(&source, &mut names);
         }
     }
     assert_eq!(names.into_iter().collect::<Vec<_>>(), of_wrapper());

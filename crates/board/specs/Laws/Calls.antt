@@ -1,6 +1,6 @@
 -- What the calls on a board do, as the layers above use it.
 -- Assumes nothing.
-use Rattle.std.specs.Prelude.{◌≡◌, Bool, false, cond, List, ℕ, ◌+◌, ◌*◌, ◌^◌, ◌≤◌, ◌<◌, ltb, leb, eqb, length}
+use Rattle.std.specs.Prelude.{◌≡◌, Bool, false, cond, List, ℕ, ◌+◌, ◌*◌, ◌^◌, ◌≤◌, ◌<◌, ltb, leb, eqb, length, Ok, Err}
 use Rattle.std.proofs.Math.Path.{refl}
 use Rattle.std.proofs.Common.{ap, ◌∙◌, add_comm, mul_comm, arith}
 use Rattle.std.proofs.Math.Bool.{true}
@@ -12,21 +12,19 @@ use Rattle.records.specs.Laws.Limits.{lines_facts}
 use Rattle.guard_table.specs.Meaning.GuardTable.{length_in, head_mode, head_inputs, head_outputs, head_count, first_kind, shows_kind, kind_of, output_in, next_in}
 use Rattle.game.specs.Meaning.Proposal.{proposal, deviates}
 use Rattle.game.specs.Meaning.Book.{Call, load, step, rewind, unload}
-use Rattle.board.specs.Meaning.Board.{live, empty_board, run_at, rewind_on, unload_on}
+use Rattle.board.specs.Meaning.Board.{live, empty_board, run_at, Changing, rewind_on, unload_on}
 use Rattle.guard_table.specs.Meaning.Loadable.{entry_ok, loadable}
 use Rattle.guard_table.specs.Model.Inside.{Sized}
 use Rattle.guard_table.specs.Laws.LoadableFacts.{loadable-head, loadable_entry}
-use Rattle.board.specs.Meaning.Load.{board_of, load_on}
-use Rattle.board.specs.Meaning.BoardStep.{length_fits, entry_fits, board_moved, looked_up, step_on, step_number, step_refusal}
+use Rattle.board.specs.Meaning.Load.{board_of, Loading, load_on}
+use Rattle.board.specs.Meaning.BoardStep.{Step, length_fits, entry_fits, board_moved, looked_up, step_on, step_number, step_refusal}
 use Rattle.board.specs.Meaning.Calls.{board_after}
 use Rattle.board.specs.Laws.LiveFacts.{live_facts, facts_live}
 use Rattle.board.specs.declared.Board.{Board}
-use Rattle.board.specs.declared.answers.Load.{Load}
-use Rattle.board.specs.declared.answers.Loading.{Loading}
-use Rattle.board.specs.declared.answers.Step.{Step}
-use Rattle.board.specs.declared.answers.Step.TheVariants.{Spent, BadInput, BadTable}
-use Rattle.board.specs.declared.answers.Change.{Change}
-use Rattle.board.specs.declared.answers.Changing.{Changing}
+use Rattle.board.specs.declared.answers.LoadRefusal.{LoadRefusal}
+use Rattle.board.specs.declared.answers.StepRefusal.{StepRefusal}
+use Rattle.board.specs.declared.answers.StepRefusal.TheVariants.{Spent, BadInput, BadTable}
+use Rattle.board.specs.declared.answers.ChangeRefusal.{ChangeRefusal}
 
 -- ---- a board that counts as empty
 
@@ -37,25 +35,25 @@ empty_board_lem = refl
 
 module _ (b : Board) (e : live b ≡ false) where
   -- it takes every loadable table
-  pub load_empty : (t : List ℕ) → loadable t ≡ true → load_on b t ≡ record { board = board_of t; answer = Load.Loaded }
+  pub load_empty : (t : List ℕ) → loadable t ≡ true → load_on b t ≡ record { board = board_of t; answer = Ok tt }
   unfolding load_on
   load_empty t l = simp (e, l)
 
   -- and no other
-  pub load_bad : (t : List ℕ) → loadable t ≡ false → load_on b t ≡ record { board = b; answer = Load.BadTable }
+  pub load_bad : (t : List ℕ) → loadable t ≡ false → load_on b t ≡ record { board = b; answer = Err LoadRefusal.BadTable }
   unfolding load_on
   load_bad t l = simp (e, l)
 
   -- every other call is refused 20, with the same board
-  pub step_empty : (t : List ℕ) (i : ℕ) → step_on b t i ≡ record { board = b; answer = Step.Empty }
+  pub step_empty : (t : List ℕ) (i : ℕ) → step_on b t i ≡ record { board = b; answer = Err StepRefusal.Empty }
   unfolding step_on
   step_empty t i = simp e
 
-  pub rewind_empty : rewind_on b ≡ record { board = b; answer = Change.Empty }
+  pub rewind_empty : rewind_on b ≡ record { board = b; answer = Err ChangeRefusal.Empty }
   unfolding rewind_on
   rewind_empty = simp e
 
-  pub unload_empty : unload_on b ≡ record { board = b; answer = Change.Empty }
+  pub unload_empty : unload_on b ≡ record { board = b; answer = Err ChangeRefusal.Empty }
   unfolding unload_on
   unload_empty = simp e
 
@@ -170,17 +168,17 @@ next_inside b t i f = ltb-true (next_in t b.inputs b.place i) b.count (search (a
 
 module _ (b : Board) (e : live b ≡ true) where
   -- every load is refused 21, with the same board
-  pub load_occupied : (t : List ℕ) → load_on b t ≡ record { board = b; answer = Load.Occupied }
+  pub load_occupied : (t : List ℕ) → load_on b t ≡ record { board = b; answer = Err LoadRefusal.Occupied }
   unfolding load_on
   load_occupied t = simp e
 
   -- rewind sets place, steps and deviations to 0
-  pub rewind_live : rewind_on b ≡ record { board = run_at b 0 0 0; answer = Change.Done }
+  pub rewind_live : rewind_on b ≡ record { board = run_at b 0 0 0; answer = Ok tt }
   unfolding rewind_on
   rewind_live = simp e
 
   -- unload empties it
-  pub unload_live : unload_on b ≡ record { board = empty_board; answer = Change.Done }
+  pub unload_live : unload_on b ≡ record { board = empty_board; answer = Ok tt }
   unfolding unload_on
   unload_live = simp e
 
@@ -188,11 +186,11 @@ module _ (b : Board) (e : live b ≡ true) where
   pub step_case : (t : List ℕ) (i : ℕ) → StepCase b t i
   unfolding step_on looked_up
   step_case t i =
-      by_test (leb max_steps b.steps) (λ p. refused Spent refl (simp (e, p)))
+      by_test (leb max_steps b.steps) (λ p. refused (Err Spent) refl (simp (e, p)))
       (λ p. by_test (ltb i (2 ^ b.inputs))
       (λ q. by_test (entry_fits b t i) (λ r. taken (leb-false max_steps b.steps p) r (simp (e, p, q, r)))
-      (λ r. refused BadTable refl (simp (e, p, q, r))))
-      (λ q. refused BadInput refl (simp (e, p, q))))
+      (λ r. refused (Err BadTable) refl (simp (e, p, q, r))))
+      (λ q. refused (Err BadInput) refl (simp (e, p, q))))
 
   -- a rewind leaves it live
   pub rewound_live : live (run_at b 0 0 0) ≡ true
@@ -230,12 +228,12 @@ module _ (b : Board) (e : live b ≡ true) where
   stays-live unload n = absurd (n refl)
 
   -- a step is refused 22 after its last one, and else 12 at an input out of range, whatever the slice
-  pub step_spent : (t : List ℕ) (i : ℕ) → max_steps ≤ b.steps → step_on b t i ≡ record { board = b; answer = Spent }
+  pub step_spent : (t : List ℕ) (i : ℕ) → max_steps ≤ b.steps → step_on b t i ≡ record { board = b; answer = Err Spent }
   unfolding step_on
   step_spent t i h = simp (e, le-leb _ _ h)
 
   pub step_stranger : (t : List ℕ) (i : ℕ) → b.steps < max_steps → 2 ^ b.inputs ≤ i
-      → step_on b t i ≡ record { board = b; answer = BadInput }
+      → step_on b t i ≡ record { board = b; answer = Err BadInput }
   unfolding step_on
   step_stranger t i h k = simp (e, lt-leb _ _ h, le-ltb _ _ k)
 

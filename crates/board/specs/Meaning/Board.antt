@@ -1,11 +1,11 @@
 -- The board record (document 01, 'The board'): its ranges, and what rewind and unload hand back.
 -- Assumes nothing.
-use Rattle.std.specs.Prelude.{Bool, false, cond, ◌&&◌, ◌||◌, ℕ, ltb, leb, eqb}
+use Rattle.std.specs.Prelude.{Bool, false, cond, ◌&&◌, ◌||◌, ℕ, ltb, leb, eqb, Result, Ok, Err}
 use Rattle.records.specs.Meaning.Limits.{max_states, max_steps, lines_ok}
 use Rattle.board.specs.declared.Board.{Board}
-use Rattle.board.specs.declared.answers.Change.{Change}
-use Rattle.board.specs.declared.answers.Change.TheVariants.{Done, Empty}
-use Rattle.board.specs.declared.answers.Changing.{Changing}
+use Rattle.board.specs.declared.answers.Answered.{Answered}
+use Rattle.board.specs.declared.answers.ChangeRefusal.{ChangeRefusal}
+use Rattle.board.specs.declared.answers.ChangeRefusal.TheVariants.{Empty}
 
 -- the ranges of count, place, steps and deviations
 unfoldable pub counts_ok : ℕ → ℕ → ℕ → ℕ → ℕ → Bool
@@ -37,16 +37,23 @@ run_at b place steps deviations =
       deviations = deviations;
     }
 
+-- what a rewind or unload answers, and what it hands back
+abbrev pub Change : Type 0
+Change = Result (Unit {0}) ChangeRefusal
+
+abbrev pub Changing : Type 0
+Changing = Answered Change
+
 unfoldable pub rewind_on : Board → Changing
-rewind_on b = cond (live b) (record { board = run_at b 0 0 0; answer = Done }) (record { board = b; answer = Empty })
+rewind_on b = cond (live b) (record { board = run_at b 0 0 0; answer = Ok tt }) (record { board = b; answer = Err Empty })
 
 unfoldable pub unload_on : Board → Changing
-unload_on b = cond (live b) (record { board = empty_board; answer = Done }) (record { board = b; answer = Empty })
+unload_on b = cond (live b) (record { board = empty_board; answer = Ok tt }) (record { board = b; answer = Err Empty })
 
 -- document 01's number of an answer, 0 for no refusal; the answer has no other figure
 abbrev pub change_number : Change → ℕ
-change_number Done = 0
-change_number Empty = 20
+change_number (Ok done) = 0
+change_number (Err Empty) = 20
 
 -- the number that is due
 unfoldable pub change_refusal : Board → ℕ

@@ -2,13 +2,10 @@
 -- Assumes nothing.
 use Rattle.std.specs.Prelude.{List, ℕ}
 use Rattle.game.specs.Meaning.Book.{Call, load, step, rewind, unload, Answer}
-use Rattle.board.specs.Meaning.Board.{rewind_on, unload_on, change_number}
-use Rattle.board.specs.Meaning.Load.{load_on, load_number}
-use Rattle.board.specs.Meaning.BoardStep.{step_on, step_number, step_output}
+use Rattle.board.specs.Meaning.Board.{Changing, rewind_on, unload_on, change_number}
+use Rattle.board.specs.Meaning.Load.{Loading, load_on, load_number}
+use Rattle.board.specs.Meaning.BoardStep.{Stepping, step_on, step_number, step_output}
 use Rattle.board.specs.declared.Board.{Board}
-use Rattle.board.specs.declared.answers.Loading.{Loading}
-use Rattle.board.specs.declared.answers.Stepping.{Stepping}
-use Rattle.board.specs.declared.answers.Changing.{Changing}
 
 -- the answers of a load, a step, and a rewind or unload
 abbrev pub load_says : Loading → Answer

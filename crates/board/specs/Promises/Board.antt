@@ -1,16 +1,13 @@
 -- What each public call promises, for all arguments.
 -- Assumes nothing.
 use Rattle.std.specs.Prelude.{◌≡◌, List, ℕ}
-use Rattle.board.specs.Meaning.Board.{empty_board, rewind_on, unload_on, change_number, change_refusal}
-use Rattle.board.specs.Meaning.Load.{load_on, load_number, load_refusal}
-use Rattle.board.specs.Meaning.BoardStep.{step_on, step_number, step_output, step_refusal, step_given}
+use Rattle.board.specs.Meaning.Board.{empty_board, Changing, rewind_on, unload_on, change_number, change_refusal}
+use Rattle.board.specs.Meaning.Load.{Loading, load_on, load_number, load_refusal}
+use Rattle.board.specs.Meaning.BoardStep.{Stepping, step_on, step_number, step_output, step_refusal, step_given}
 use Rattle.game.specs.Meaning.Book.{Call, load, step, rewind, unload}
 use Rattle.board.specs.Meaning.Calls.{load_says, step_says, change_says}
 use Rattle.board.specs.Meaning.Deviations.{last, history, Counts, KeepsCount}
 use Rattle.board.specs.declared.Board.{Board}
-use Rattle.board.specs.declared.answers.Loading.{Loading}
-use Rattle.board.specs.declared.answers.Stepping.{Stepping}
-use Rattle.board.specs.declared.answers.Changing.{Changing}
 
 -- the whole board, and over every list of calls from it the count of deviations
 pub record EmptyPromise (r : Board) : Type 0 where

@@ -3,4 +3,5 @@ use Rattle.board_bytes.proofs.Handing.{rewinds}
 use Rattle.board_bytes.proofs.rewind.Goals as goal
 
 pub returns : goal.returns
-returns c = rewinds _ _ _ _ _ c.board_in.ensures c.rewind-changing.ensures c.change_number-number.ensures c.hand_back.ensures
+returns c =
+    rewinds _ _ _ _ _ c.board_in.ensures c.rewind-rewinding.ensures c.hand_back.ensures.number c.hand_back.ensures.bytes

@@ -3,4 +3,5 @@ use Rattle.board_bytes.proofs.Handing.{unloads}
 use Rattle.board_bytes.proofs.unload.Goals as goal
 
 pub returns : goal.returns
-returns c = unloads _ _ _ _ _ c.board_in.ensures c.unload-changing.ensures c.change_number-number.ensures c.hand_back.ensures
+returns c =
+    unloads _ _ _ _ _ c.board_in.ensures c.unload-unloading.ensures c.hand_back.ensures.number c.hand_back.ensures.bytes

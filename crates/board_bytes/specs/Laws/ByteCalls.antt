@@ -7,16 +7,13 @@ use Rattle.records.specs.Laws.Tests.{by_test}
 use Rattle.game.specs.Meaning.History.{Step}
 use Rattle.game.specs.Meaning.Book.{Call, load, step, rewind, unload, Answer, Entry}
 use Rattle.game.specs.Meaning.Machine.{Held, replies, Shown, Agrees}
-use Rattle.board.specs.Meaning.Board.{live, change_number}
-use Rattle.board.specs.Meaning.Load.{load_number}
-use Rattle.board.specs.Meaning.BoardStep.{step_number, board_moved}
+use Rattle.board.specs.Meaning.Board.{Changing, live, change_number}
+use Rattle.board.specs.Meaning.Load.{Loading, load_number}
+use Rattle.board.specs.Meaning.BoardStep.{Stepping, step_number, board_moved}
 use Rattle.board.specs.Meaning.Calls.{board_after, says}
 use Rattle.board.specs.Laws.Calls.{refused, taken}
 use Rattle.board.specs.Laws.Calls as laws
 use Rattle.board.specs.declared.Board.{Board}
-use Rattle.board.specs.declared.answers.Loading.{Loading}
-use Rattle.board.specs.declared.answers.Stepping.{Stepping}
-use Rattle.board.specs.declared.answers.Changing.{Changing}
 use Rattle.board_bytes.specs.Meaning.BoardBytes.{board_in}
 use Rattle.board_bytes.specs.Meaning.ByteCalls.{bytes_after, bytes_say, bytes_on}
 use Rattle.board_bytes.specs.Laws.BoardBytes.{board_back}

@@ -1,9 +1,10 @@
 -- What each call promises: the same as the call below it, of the same arguments, by number and bytes.
 -- Assumes nothing.
-use Rattle.std.specs.Prelude.{◌≡◌, List, [], ◌∷◌, ℕ}
+use Rattle.std.specs.Prelude.{◌≡◌, List, [], ◌∷◌, ℕ, Result}
 use Rattle.game.specs.Meaning.Book.{Call, load, step, rewind, unload}
 use Rattle.board.specs.Promises.Board.{LoadPromise, StepPromise, RewindPromise, UnloadPromise}
 use Rattle.solve.specs.Meaning.Made.{made_number, made_length, made_states}
+use Rattle.sheet.specs.declared.layout.Refusal.{Refusal}
 use Rattle.solve.specs.declared.made.Made.{Made}
 use Rattle.board_bytes.specs.Meaning.BoardBytes.{board_in}
 use Rattle.board_bytes.specs.Meaning.ByteCalls.{bytes_say, bytes_on, in_one}
@@ -33,12 +34,12 @@ UnloadCall before = Calls (UnloadPromise (board_in before)) unload before
 -- ---- makers
 
 -- the figures of an answer: the table's length and states, 0 on a refusal
-abbrev pub figures_of : Made → List ℕ
-figures_of made = made_length made ∷ made_states made ∷ []
+abbrev pub figures_of : {E : Type 0} → Result Made E → List ℕ
+figures_of answer = made_length answer ∷ made_states answer ∷ []
 
 -- an answer as the maker promises it, reported by its number and figures
-pub record Reports (promise : Made → Type 0) (r : ℕ) (reported : List ℕ) : Type 0 where
-  pub made : Made
+pub record Reports (promise : Result Made Refusal → Type 0) (r : ℕ) (reported : List ℕ) : Type 0 where
+  pub made : Result Made Refusal
   pub promised : promise made
   pub number : r ≡ made_number made
   pub figures : reported ≡ figures_of made

@@ -11,14 +11,14 @@ use Rattle.records.specs.Laws.Tests.{by_test}
 use Rattle.records.specs.Laws.Lists.{length-put, put_ext, get_d_put-front, get_d_put_rest}
 use Rattle.card.specs.Meaning.Card.{averages_in, lost_entry}
 use Rattle.card.specs.Model.Card.{averages_of, card_entry, card_entry_at, lost_entries, lost_card, card_of}
+use Rattle.card.specs.declared.Prospect.{Prospect}
 use Rattle.card.specs.declared.Prospect.TheVariants.{Worth}
-use Rattle.card.specs.declared.Entry.{Entry}
 use Rattle.card.specs.declared.Card.{Card}
 
 -- ---- an entry
 
 module _ (round best least words : ℕ) where
-  pub entry_kept : eqb round 0 ≡ true → card_entry round best least words ≡ record { prospect = Worth (averages_of best least words) }
+  pub entry_kept : eqb round 0 ≡ true → card_entry round best least words ≡ Worth (averages_of best least words)
   unfolding card_entry
   entry_kept k = simp k
 
@@ -27,7 +27,7 @@ module _ (round best least words : ℕ) where
   entry_lost k = simp k
 
   -- it has averages exactly if the state is kept
-  pub entry_averages : averages_in (card_entry round best least words).prospect ≡ cond (eqb round 0) (some (averages_of best least words)) none
+  pub entry_averages : averages_in (card_entry round best least words) ≡ cond (eqb round 0) (some (averages_of best least words)) none
   unfolding card_entry
   entry_averages = by_test (eqb round 0) (λ k. rw k refl) (λ k. rw k refl)
 
@@ -86,5 +86,5 @@ pub card_ext : (dropped bests leasts : List ℕ) (words n : ℕ) (dropped' bests
     → card_of dropped bests leasts words n ≡ card_of dropped' bests' leasts' words' n'
 unfolding card_of
 card_ext dropped bests leasts words n dropped' bests' leasts' words' n' e same =
-    ap {B = Card} (λ (l : List Entry). record { count = n; entries = l }) (put_ext lost_entries n _ _ same)
+    ap {B = Card} (λ (l : List Prospect). record { count = n; entries = l }) (put_ext lost_entries n _ _ same)
     ∙ ap {B = Card} (λ (m : ℕ). record { count = m; entries = put lost_entries m (card_entry_at dropped' bests' leasts' words') }) e

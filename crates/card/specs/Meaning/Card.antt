@@ -4,7 +4,6 @@ use Rattle.std.proofs.Math.Option.{Option, none, some}
 use Rattle.card.specs.declared.Averages.{Averages}
 use Rattle.card.specs.declared.Prospect.{Prospect}
 use Rattle.card.specs.declared.Prospect.TheVariants.{Lost, Worth}
-use Rattle.card.specs.declared.Entry.{Entry}
 
 -- the averages of a state, none if it is lost
 abbrev pub averages_in : Prospect → Option Averages
@@ -12,5 +11,5 @@ averages_in Lost = none
 averages_in (Worth a) = some a
 
 -- the entry that says lost
-abbrev pub lost_entry : Entry
-lost_entry = record { prospect = Lost }
+abbrev pub lost_entry : Prospect
+lost_entry = Lost

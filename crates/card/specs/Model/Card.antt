@@ -6,8 +6,8 @@ use Rattle.records.specs.Model.Lists.{put}
 use Rattle.averages.specs.Meaning.Averages.{average_of}
 use Rattle.card.specs.Meaning.Card.{lost_entry}
 use Rattle.card.specs.declared.Averages.{Averages}
+use Rattle.card.specs.declared.Prospect.{Prospect}
 use Rattle.card.specs.declared.Prospect.TheVariants.{Worth}
-use Rattle.card.specs.declared.Entry.{Entry}
 use Rattle.card.specs.declared.Card.{Card}
 
 -- two sums over a number of words that can be averaged
@@ -29,15 +29,15 @@ unfoldable pub averages_of : ℕ → ℕ → ℕ → Averages
 averages_of best least words = record { best = average_of best words; least = average_of least words }
 
 -- a state that no round dropped is kept
-unfoldable pub card_entry : ℕ → ℕ → ℕ → ℕ → Entry
-card_entry round best least words = cond (eqb round 0) (record { prospect = Worth (averages_of best least words) }) lost_entry
+unfoldable pub card_entry : ℕ → ℕ → ℕ → ℕ → Prospect
+card_entry round best least words = cond (eqb round 0) (Worth (averages_of best least words)) lost_entry
 
 -- the entry of state s
-unfoldable pub card_entry_at : List ℕ → List ℕ → List ℕ → ℕ → ℕ → Entry
+unfoldable pub card_entry_at : List ℕ → List ℕ → List ℕ → ℕ → ℕ → Prospect
 card_entry_at dropped bests leasts words s = card_entry (get_or dropped s 0) (get_or bests s 0) (get_or leasts s 0) words
 
 -- every entry lost
-unfoldable pub lost_entries : List Entry
+unfoldable pub lost_entries : List Prospect
 lost_entries = replicate max_states lost_entry
 
 unfoldable pub lost_card : Card

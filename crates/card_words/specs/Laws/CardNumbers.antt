@@ -7,19 +7,19 @@ use Rattle.records.specs.Laws.Tests.{by_test}
 use Rattle.averages.specs.Laws.Averages.{average_number}
 use Rattle.card.specs.Model.Card.{averages_of, card_entry, card_entry_at, lost_card, card_of}
 use Rattle.card.specs.Laws.Card.{entry_kept, entry_lost, lost_at, card_at, card_past}
+use Rattle.card.specs.declared.Prospect.{Prospect}
 use Rattle.card.specs.declared.Prospect.TheVariants.{Worth}
-use Rattle.card.specs.declared.Entry.{Entry}
 use Rattle.card_words.specs.Model.CardNumbers.{Number, AllNumbers}
 
--- equal entries
-same_number : {e f : Entry} → e ≡ f → Number f.prospect → Number e.prospect
-same_number q n = subst (λ (x : Entry). Number x.prospect) (sym q) n
+-- equal prospects
+same_number : {p q : Prospect} → p ≡ q → Number q → Number p
+same_number e n = subst Number (sym e) n
 
 worth_number : (best least words : ℕ) → Number (Worth (averages_of best least words))
 unfolding averages_of
 worth_number best least words = (average_number best words, average_number least words)
 
-entry_number : (round best least words : ℕ) → Number (card_entry round best least words).prospect
+entry_number : (round best least words : ℕ) → Number (card_entry round best least words)
 entry_number round best least words =
     by_test (eqb round 0) (λ k. same_number (entry_kept round best least words k) (worth_number best least words))
     (λ k. same_number (entry_lost round best least words k) tt)

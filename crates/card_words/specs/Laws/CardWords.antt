@@ -12,16 +12,15 @@ use Rattle.averages.specs.Laws.Averages.{average_number, bits_back}
 use Rattle.card_words.specs.Meaning.CardWords.{lost_word, prospect_words, entry_words, card_words, card_length}
 use Rattle.card.specs.declared.Prospect.{Prospect}
 use Rattle.card.specs.declared.Prospect.TheVariants.{Lost, Worth}
-use Rattle.card.specs.declared.Entry.{Entry}
 use Rattle.card.specs.declared.Card.{Card}
 
 two_words : (p : Prospect) → length (prospect_words p) ≡ 2
 two_words Lost = refl
 two_words (Worth a) = refl
 
-pub length-words : (e : Entry) → length (entry_words e) ≡ 2
+pub length-words : (p : Prospect) → length (entry_words p) ≡ 2
 unfolding entry_words
-length-words e = two_words e.prospect
+length-words p = two_words p
 
 pub length_card : (card : Card) → length (card_words card) ≡ card_length
 unfolding card_words

@@ -8,7 +8,6 @@ use Rattle.records.specs.Meaning.Lists.{cat}
 use Rattle.card.specs.Meaning.Card.{lost_entry}
 use Rattle.card.specs.declared.Prospect.{Prospect}
 use Rattle.card.specs.declared.Prospect.TheVariants.{Lost, Worth}
-use Rattle.card.specs.declared.Entry.{Entry}
 use Rattle.card.specs.declared.Card.{Card}
 
 -- each word of a lost state: no number has these bits
@@ -20,8 +19,8 @@ abbrev pub prospect_words : Prospect → List ℕ
 prospect_words Lost = lost_word ∷ lost_word ∷ []
 prospect_words (Worth a) = to_bits binary64 a.best ∷ to_bits binary64 a.least ∷ []
 
-unfoldable pub entry_words : Entry → List ℕ
-entry_words e = prospect_words e.prospect
+unfoldable pub entry_words : Prospect → List ℕ
+entry_words p = prospect_words p
 
 unfoldable pub card_words : Card → List ℕ
 card_words card = card.count ∷ cat max_states (λ s. entry_words (get_or card.entries s lost_entry))

@@ -6,7 +6,6 @@ use Rattle.records.specs.Meaning.Limits.{max_states}
 use Rattle.card.specs.Meaning.Card.{lost_entry}
 use Rattle.card.specs.declared.Prospect.{Prospect}
 use Rattle.card.specs.declared.Prospect.TheVariants.{Lost, Worth}
-use Rattle.card.specs.declared.Entry.{Entry}
 
 -- of a state
 abbrev pub Number : Prospect → Type 0
@@ -14,5 +13,5 @@ Number Lost = Unit
 Number (Worth a) = T (not (is_nan a.best)) × T (not (is_nan a.least))
 
 -- of every state
-pub record AllNumbers (entries : List Entry) : Type 0 where
-  pub each : (s : ℕ) → s < max_states → Number (get_or entries s lost_entry).prospect
+pub record AllNumbers (entries : List Prospect) : Type 0 where
+  pub each : (s : ℕ) → s < max_states → Number (get_or entries s lost_entry)

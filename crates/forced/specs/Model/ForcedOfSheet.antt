@@ -1,6 +1,6 @@
 -- The answer that is due, by the model: its bytes, from the table of steps and the rounds over it, and its number.
 -- Assumes nothing.
-use Rattle.std.specs.Prelude.{◌≡◌, Bool, cond, List, ℕ, eqb, length}
+use Rattle.std.specs.Prelude.{◌≡◌, Bool, cond, List, ℕ, eqb, length, Result}
 use Rattle.std.proofs.lemmas.List.Edits.{sets}
 use Rattle.records.specs.Meaning.Lists.{cat}
 use Rattle.sheet.specs.Meaning.Decoded.{Decoded}
@@ -12,7 +12,8 @@ use Rattle.forced_rows.specs.Model.ForcedRows.{forced_row}
 use Rattle.solve.specs.Model.Steps.{cells_of, dropped_of}
 use Rattle.solve.specs.Model.Making.{sheet_of, ordered_number}
 use Rattle.forced.specs.Meaning.Answer.{play_number, play_length, play_states}
-use Rattle.forced.specs.declared.answer.Forced.{Forced}
+use Rattle.solve.specs.declared.made.Made.{Made}
+use Rattle.forced.specs.declared.answer.Ground.{Ground}
 
 -- the bytes of a sheet's answer
 unfoldable pub forced_of : Decoded → List ℕ
@@ -27,7 +28,7 @@ unfoldable pub held_number : Decoded → ℕ
 held_number d = cond (is_in (dropped_of d) 0) 23 0
 
 -- answer and result by the model: `work` says that the work memory is long enough, `before` and `after` are the result memory
-pub record Plays (work : Bool) (s before : List ℕ) (r : Forced) (after : List ℕ) : Type 0 where
+pub record Plays (work : Bool) (s before : List ℕ) (r : Result Made Ground) (after : List ℕ) : Type 0 where
   pub number : play_number r ≡ ordered_number held_number forced_size work s (length before)
   pub size : play_length r ≡ cond (eqb (play_number r) 0) (forced_size (sheet_of s)) 0
   pub states : play_states r ≡ cond (eqb (play_number r) 0) (state_count (sheet_of s)) 0

@@ -1,6 +1,6 @@
 -- What showing how a break is forced promises: refusals by their numbers in their order, and what the bytes say of each product state.
 -- Assumes nothing.
-use Rattle.std.specs.Prelude.{◌≡◌, ◌↔◌, true, List, [], ◌++◌, ℕ, ◌^◌, ◌≤◌, ◌<◌, length, get_or, take, drop}
+use Rattle.std.specs.Prelude.{◌≡◌, ◌↔◌, true, List, [], ◌++◌, ℕ, ◌^◌, ◌≤◌, ◌<◌, length, get_or, take, drop, Result}
 use Rattle.records.specs.Meaning.Limits.{max_states, max_outs}
 use Rattle.records.specs.Meaning.Work.{Slice, long_enough, asked_bytes}
 use Rattle.sheet.specs.Meaning.Decoded.{Decoded}
@@ -14,7 +14,8 @@ use Rattle.solve.specs.Promises.OpeningWork.{opening_work, work_most}
 use Rattle.forced.specs.Meaning.Answer.{play_number, play_length, play_states}
 use Rattle.forced.specs.Meaning.Play.{ForcedFrom, HoldsOut, Realizable}
 use Rattle.forced.specs.Model.ForcedOfSheet.{forced_of, Plays}
-use Rattle.forced.specs.declared.answer.Forced.{Forced}
+use Rattle.solve.specs.declared.made.Made.{Made}
+use Rattle.forced.specs.declared.answer.Ground.{Ground}
 
 -- ---- work memory
 
@@ -61,7 +62,7 @@ pub record ShowsPlay (d : Decoded) (n : ℕ) (bytes : List ℕ) : Type 0 where
 -- ---- the promise: `before` and `after` are the result memory, `lent` the lengths of the work memory
 
 -- what was written: the answer, then what the result held before, and its figures
-pub record Played (d : Decoded) (before : List ℕ) (r : Forced) (after : List ℕ) : Type 0 where
+pub record Played (d : Decoded) (before : List ℕ) (r : Result Made Ground) (after : List ℕ) : Type 0 where
   pub size : play_length r ≡ length (forced_of d)
   pub most : play_length r ≤ forced_length max_outs max_states
   pub states : play_states r ≡ state_count d
@@ -70,12 +71,12 @@ pub record Played (d : Decoded) (before : List ℕ) (r : Forced) (after : List �
   pub shows : ShowsPlay d (play_states r) (take (play_length r) after)
 
 -- a refusal: every figure is 0, and the result is as it was
-pub record Unplayed (before : List ℕ) (r : Forced) (after : List ℕ) : Type 0 where
+pub record Unplayed (before : List ℕ) (r : Result Made Ground) (after : List ℕ) : Type 0 where
   pub size : play_length r ≡ 0
   pub states : play_states r ≡ 0
   pub bytes : after ≡ before
 
-pub record MakesForced (s before lent : List ℕ) (r : Forced) (after : List ℕ) : Type 0 where
+pub record MakesForced (s before lent : List ℕ) (r : Result Made Ground) (after : List ℕ) : Type 0 where
   pub plays : Plays (long_enough forced_work lent) s before r after
   -- 10, 1 to 6, 7, then 23 in the place of 8 exactly if the sheet is realizable, then 9 exactly if the result is shorter than the answer
   pub ordered :

@@ -1,13 +1,13 @@
 -- `forced_rows::put_row`: the two bytes of the round, then the input, then the monitors. Assumes nothing.
 use Rattle.std.proofs.Common.{List, ap, ap₂, arith, ℕ, ◌+◌, ◌∙◌, ◌≡◌}
-use lib.ListN.{length, set, length-set}
+use lib.ListN.{set}
 use lib.Seq.{sets}
 use Rattle.records.specs.Meaning.Lists.{tab}
 use Rattle.records.specs.Meaning.Numbers.{u16_bytes}
 use Rattle.records.specs.Laws.Lists.{sets_between}
+use Rattle.rounds.specs.Model.Tables.{over}
 use Rattle.forced_rows.specs.Meaning.ForcedBytes.{forced_bytes}
 use Rattle.forced_rows.specs.Model.ForcedRows.{breaker_at, forced_row}
-use Rattle.forced_rows.proofs.put_row.Goals.{After-put_u16}
 use Rattle.forced_rows.proofs.put_row.Goals as goal
 
 -- a number, a byte after it, and what that byte says of each output
@@ -22,28 +22,8 @@ row-stored before at outs steps input f {now} {next} {x} e is wrote =
     ∙ ap₂ (λ (l : List ℕ) (y : ℕ). sets (set l (at + 2) y) (at + 2 + 1) (tab outs (f y))) e is
     ∙ sets_between before at (u16_bytes steps) input (tab outs (f input))
 
--- the result with the round and the input is as long as it was
-same : (c : After-put_u16)
-    → length (set c.put_u16.new.out (c.args.at + 2) c.forcing_input-input.result) ≡ length c.args.res.now
-same c = length-set c.put_u16.new.out _ _ ∙ c.put_u16.auto.out
-
-pub put_breakers-requires : goal.put_breakers-requires
-put_breakers-requires c =
-    record {
-      steps = c.requires.steps;
-      cell_entered = c.requires.cell_entered;
-      i_lt_ins = (
-        omega (arith, c.forcing_input-input.ensures),
-        omega (arith, same (goal.at.put_breakers-requires c).After-put_u16),
-      );
-    }
-
-pub shape_of-res : goal.shape_of-res
-shape_of-res c = c.put_breakers.auto.res ∙ same (goal.at.shape_of-res c).After-put_u16
-
 pub returns : goal.returns
 unfolding forced_row
 returns c =
-    let a = c.args in
-    row-stored _ _ _ _ _ (breaker_at a.cells.now a.dropped.now a.ins a.outs a.k) c.put_u16.ensures
-    c.forcing_input-input.ensures c.put_breakers.ensures
+    row-stored _ _ _ _ _ (over c.args.sifted.now breaker_at c.args.k) c.put_u16.ensures c.forcing_input-input.ensures
+    c.put_breakers.ensures

@@ -32,7 +32,6 @@ use Rattle.card.specs.declared.Prospect.{Prospect}
 use Rattle.card.specs.declared.Prospect.TheVariants as prospect
 use Rattle.card.specs.declared.Prospect.TheVariants.{Worth}
 use Rattle.card.specs.declared.Card.{Card}
-use Rattle.card.specs.declared.Entry.{Entry}
 use Rattle.forecast.specs.Meaning.Forecast.{KeptState, ExactAverage, WorthOf, MostEarned}
 use Rattle.forecast.specs.Model.Forecast.{least_at, bests_of, leasts_of, forecast_card}
 use Rattle.forecast.specs.Laws.Sums.{sum-earned, best_is, least_best, best_sum_most, least-sum_most}
@@ -92,7 +91,7 @@ module _ (d : Decoded) (ok : SheetOk d) where
           ≡ cond (is_in (dropped_of d) k) (some (averages k)) none
       unfolding forecast_card card_entry_at bests_of leasts_of is_in
       said =
-          ap (λ (e : Entry). averages_in e.prospect)
+          ap averages_in
           (card_at (dropped_of d) (bests_of d) (leasts_of d) (inputs_of d ^ d.horizon) (state_count d) k low (omega arith))
           ∙ entry_averages _ _ _ _
           ∙ rw (
@@ -125,7 +124,7 @@ module _ (d : Decoded) (ok : SheetOk d) where
           lost = λ k h. lost_said k (rw count at h);
           worth = λ k h. worth_said k (rw count at h);
           past = λ k h l.
-              ap (λ (e : Entry). averages_in e.prospect)
+              ap averages_in
               (card_past (dropped_of d) (bests_of d) (leasts_of d) (inputs_of d ^ d.horizon) (state_count d) k (rw count at h));
         }
 
@@ -184,15 +183,14 @@ module _ (d : Decoded) (fits : state_count d ≤ max_states) {limit : ℕ} {c e 
 
   same_entry : (k : ℕ) → k < limit → get_or c.entries k lost_entry ≡ get_or e.entries k lost_entry
   same_entry k h =
-      ap {B = Entry} (λ (p : Prospect). record { prospect = p })
-      (same_prospect (says_of c k) (says_of e k)
+      same_prospect (says_of c k) (says_of e k)
       (elim (dec_lt k c.count) [
         | yes l ↦ same_said k l
         | no l ↦ x.past k (omega arith) h ∙ sym (y.past k (omega (arith, same_count)) h)
-      ]))
+      ])
 
   -- two cards of so many entries that foretell the same are one
   pub only_card : length c.entries ≡ limit → length e.entries ≡ limit → c ≡ e
   only_card long wide =
-      ap₂ {C = Card} (λ (n : ℕ) (l : List Entry). record { count = n; entries = l }) same_count
+      ap₂ {C = Card} (λ (n : ℕ) (l : List Prospect). record { count = n; entries = l }) same_count
       (ext_get_or lost_entry c.entries e.entries (long ∙ sym wide) (λ k l. same_entry k (omega arith)))

@@ -1,12 +1,13 @@
 -- What the forecast promises, for every sheet and work memory: refusals by document 01's numbers in its order, and what each entry of
 -- the card says of the product state with its number.
 -- Assumes nothing.
-use Rattle.std.specs.Prelude.{◌≡◌, ◌↔◌, List, [], ◌∷◌, ℕ, ◌≤◌, ◌<◌, length, get_or}
+use Rattle.std.specs.Prelude.{◌≡◌, ◌↔◌, List, [], ◌∷◌, ℕ, ◌≤◌, ◌<◌, length, get_or, Result}
 use Rattle.std.proofs.Math.Option.{none, some}
 use Rattle.records.specs.Meaning.Limits.{max_states, max_letters}
 use Rattle.records.specs.Meaning.Work.{Slice, pairs, eights, long_enough, asked_bytes}
 use Rattle.sheet.specs.Meaning.Decoded.{Decoded}
 use Rattle.sheet.specs.Meaning.Grounds.{verdict_number}
+use Rattle.sheet.specs.declared.layout.Refusal.{Refusal}
 use Rattle.product.specs.Meaning.Step.{first_tuple}
 use Rattle.product.specs.Meaning.States.{ProductStates}
 use Rattle.solve.specs.Meaning.Allowed.{Kept, Lost, Accepted}
@@ -19,8 +20,7 @@ use Rattle.card.specs.declared.Card.{Card}
 use Rattle.card.specs.declared.Prospect.{Prospect}
 use Rattle.forecast.specs.Meaning.Forecast.{BestSums, LeastSums, WorthOf}
 use Rattle.forecast.specs.Model.Forecast.{least_at, forecast_card}
-use Rattle.forecast.specs.Model.Forecasting.{AnswersForecast}
-use Rattle.forecast.specs.declared.answer.Forecasting.{Forecasting}
+use Rattle.forecast.specs.Model.Forecasting.{card_in, AnswersForecast}
 
 -- ---- work memory
 
@@ -36,7 +36,7 @@ forecast_work = forecast_work_for max_states
 
 -- of the product state with number k
 abbrev pub says_of : Card → ℕ → Prospect
-says_of card k = (get_or card.entries k lost_entry).prospect
+says_of card k = get_or card.entries k lost_entry
 
 -- of a card for at most `limit` product states
 pub record ForetellsWithin (limit : ℕ) (d : Decoded) (card : Card) : Type 0 where
@@ -65,16 +65,16 @@ pub record Unforetold (card : Card) : Type 0 where
 
 -- ---- the promise: `lent` are the lengths of the work memory
 
-pub record MakesForecast (s lent : List ℕ) (r : Forecasting) : Type 0 where
+pub record MakesForecast (s lent : List ℕ) (r : Result Card Refusal) : Type 0 where
   pub answers : AnswersForecast (long_enough forecast_work lent) s r
-  pub opens : OpensSheet (long_enough forecast_work lent) s (verdict_number r.verdict)
+  pub opens : OpensSheet (long_enough forecast_work lent) s (verdict_number r)
   -- a card has 512 entries
-  pub entries : length r.card.entries ≡ max_states
-  pub foretold : verdict_number r.verdict ≡ 0 → (d : Decoded) → Accepted s d → Foretells d r.card
+  pub entries : length (card_in r).entries ≡ max_states
+  pub foretold : verdict_number r ≡ 0 → (d : Decoded) → Accepted s d → Foretells d (card_in r)
   -- which no other card with 512 entries does
   pub only : (d : Decoded) → Accepted s d → (card : Card) → length card.entries ≡ max_states → Foretells d card
       → card ≡ forecast_card d
-  pub refused : (verdict_number r.verdict ≡ 0 → ⊥) → Unforetold r.card
+  pub refused : (verdict_number r ≡ 0 → ⊥) → Unforetold (card_in r)
   -- the sums behind the averages, by document 01's recursion
   pub best_sums : (d : Decoded) → Accepted s d → BestSums d (best_at d)
   pub least_sums : (d : Decoded) → Accepted s d → LeastSums d (least_at d)

@@ -20,7 +20,6 @@ use Rattle.guard.specs.Laws.GuardRows.{table-rows, only_rows, rows_few}
 use Rattle.card.specs.Meaning.Card.{averages_in, lost_entry}
 use Rattle.card.specs.Laws.Card.{card_length_lem}
 use Rattle.card.specs.declared.Card.{Card}
-use Rattle.card.specs.declared.Entry.{Entry}
 use Rattle.forecast.specs.Model.Forecast.{forecast_card}
 use Rattle.forecast.specs.Promises.Forecast.{says_of, ForetellsWithin, Foretells}
 use Rattle.forecast.specs.Laws.Foretells.{foretells, only_card}
@@ -33,7 +32,7 @@ use Rattle.hundlezoqa_c.specs.Promises.SmallerLimit.{Keeps, cut_card, SameAnswer
 module _ {limit : ℕ} (small : limit ≤ max_states) {d : Decoded} {c : Card} (x : Foretells d c) (few : c.count ≤ limit) where
   -- says of the entries that are left what it said
   says : (k : ℕ) → k < limit → averages_in (says_of (cut_card limit c) k) ≡ averages_in (says_of c k)
-  says k h = ap (λ (e : Entry). averages_in e.prospect) (get_or-take limit c.entries k lost_entry h)
+  says k h = ap averages_in (get_or-take limit c.entries k lost_entry h)
 
   -- and they are enough
   cut_foretells : ForetellsWithin limit d (cut_card limit c)

@@ -1,8 +1,9 @@
 -- Laws of a number in decimal: its digits, and how many there are.
 -- Assumes nothing.
-use Rattle.std.specs.Prelude.{◌≡◌, Bool, true, false, List, [], ◌∷◌, ◌++◌, ℕ, zero, suc, ◌+◌, ◌/◌, ◌%◌, ◌≤◌, ◌<◌, length}
+use Rattle.std.specs.Prelude.{◌≡◌, Bool, true, false, List, [], ◌∷◌, ◌++◌, ℕ, zero, suc, ◌+◌, ◌*◌, ◌/◌, ◌%◌, ◌^◌, ◌≤◌, ◌<◌, length, max}
 use Rattle.std.proofs.Common.{sym, ap, ◌∙◌, arith, length-append, lt-ltb, le-ltb}
 use Rattle.std.proofs.Math.Decide.{dec_lt}
+use Rattle.std.proofs.Math.Nat.{one-le-pow}
 use Rattle.listing_text.specs.Meaning.Listing.{decimal_from, decimal}
 
 from_digit : (f n : ℕ) → n < 10 → decimal_from (suc f) n ≡ (48 + n) ∷ []
@@ -76,3 +77,10 @@ two_most n h = elim (dec_lt n 10) [ yes l ↦ omega (arith, one_digit n l) | no 
 
 pub three_most : (n : ℕ) → n < 1000 → length (decimal n) ≤ 3
 three_most n h = elim (dec_lt n 100) [ yes l ↦ omega (arith, two_most n l) | no l ↦ omega (arith, three_digits n (omega arith) h) ]
+
+-- and one more than the logarithm, which is asked of no 0
+pub digits_log : (n k : ℕ) → n < 1000 → {m : ℕ} → m ≡ max n 1 → 10 ^ k ≤ m → m < 10 * 10 ^ k → (k + 1 ≡ length (decimal n)) × (k + 1 ≤ 3)
+digits_log n zero few e low high = omega (arith, e, one_digit n (omega (arith, e)))
+digits_log n (suc zero) few e low high = omega (arith, e, two_digits n (omega (arith, e)) (omega (arith, e)))
+digits_log n (suc (suc zero)) few e low high = omega (arith, e, three_digits n (omega (arith, e)) few)
+digits_log n (suc (suc (suc k))) few e low high = absurd (omega (arith, e, one-le-pow k 10 (omega arith)))

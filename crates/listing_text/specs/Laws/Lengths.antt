@@ -40,6 +40,11 @@ length-listing t {count} e =
     ap length (sym (listing_parts t e))
     ∙ length-append (head_line count (head_inputs t) (head_outputs t) (head_horizon t)) (cat count (row_of t (head_inputs t)))
 
+pub closed_length : (t : List ℕ) {bytes : List ℕ} {inputs count : ℕ} → bytes ≡ t → inputs ≡ head_inputs t → count ≡ head_count t
+    → length (listing_of t)
+    ≡ length (head_line count inputs (head_outputs t) (head_horizon t)) + length (cat count (row_of bytes inputs))
+closed_length t b i e = rw (b, i) (length-listing t e)
+
 pub length-refused : (number : ℕ) → length (refused_text number) ≡ 9 + length (decimal number)
 unfolding refused_text labelled
 length-refused number = simp length-append (omega arith)

@@ -1,8 +1,10 @@
 -- Laws of text put piece by piece: words, elements and blocks one after the other, and the room for them.
 -- Assumes nothing.
-use Rattle.std.specs.Prelude.{◌≡◌, refl, List, ◌++◌, ℕ, ◌+◌, ◌≤◌, ◌<◌, length, get_or, set}
-use Rattle.std.proofs.Common.{sym, ap, ◌∙◌, arith, length-append}
-use Rattle.std.proofs.lemmas.List.Edits.{sets}
+use Rattle.std.specs.Prelude.{◌≡◌, refl, List, ◌++◌, ℕ, ◌+◌, ◌-◌, ◌≤◌, ◌<◌, length, get_or, set, take, drop}
+use Rattle.std.proofs.Common.{sym, ap, ◌∙◌, arith, append_assoc, length-append}
+use Rattle.std.proofs.lemmas.List.{drop-drop}
+use borrow.Rule.Slice.PartMut.{put_mid}
+use Rattle.std.proofs.lemmas.List.Edits.{sets, sets-eq}
 use Rattle.std.proofs.Math.Seq.{length-sets}
 use Rattle.records.specs.Meaning.Lists.{tab, cat}
 use Rattle.records.specs.Laws.Lists.{length-tab, tab_self, cat_none, cat_more, cat-at, sets_append, sets_more}
@@ -52,6 +54,16 @@ pub word_all : (word : List ℕ) (i : ℕ) → i ≡ length word → {before : L
     → Put before at (tab i (λ j. get_or word j 0)) place now → Put before at word place now
 word_all word i e p = put_as p (ap (λ (n : ℕ). tab n (λ j. get_or word j 0)) e ∙ sym (tab_self 0 word))
 
+-- a word that was copied over a part as long
+pub word_put : (before word : List ℕ) (at : ℕ) → at + length word ≤ length before → {copy : List ℕ} → copy ≡ word
+    → Put before at word (at + length word) (put_mid at (at + length word - at) before copy)
+word_put before word at room e =
+    let wide : at + length word - at ≡ length word = omega arith in
+    record {
+      place_is = refl;
+      bytes = rw (e, wide, drop-drop) (sym (sets-eq word before at room ∙ append_assoc (take at before) word (drop (at + length word) before)));
+    }
+
 -- blocks, as a loop puts them
 pub piece_none : (before : List ℕ) (at : ℕ) (f : ℕ → List ℕ) → Put before at (cat 0 f) at before
 piece_none before at f = rw cat_none (record { place_is = omega arith; bytes = refl })
@@ -89,3 +101,8 @@ pub listing_parts : (t : List ℕ) {count : ℕ} → count ≡ head_count t
     → head_line count (head_inputs t) (head_outputs t) (head_horizon t) ++ cat count (row_of t (head_inputs t)) ≡ listing_of t
 unfolding listing_of listing row_of
 listing_parts t e = rw e
+
+-- and of one whose bytes and head were taken apart
+pub closed_parts : (t : List ℕ) {bytes : List ℕ} {inputs count : ℕ} → bytes ≡ t → inputs ≡ head_inputs t → count ≡ head_count t
+    → head_line count inputs (head_outputs t) (head_horizon t) ++ cat count (row_of bytes inputs) ≡ listing_of t
+closed_parts t b i e = rw (b, i) (listing_parts t e)

@@ -1,10 +1,11 @@
 -- The counters of document 01's notebook: two automata that never break, moved by different output lines.
 -- Assumes nothing.
-use Rattle.std.specs.Prelude.{◌≡◌, true, cond, List, [], ◌∷◌, ℕ, ◌+◌, ◌-◌, ◌*◌, ◌/◌, ◌%◌, eqb, ltb}
+use Rattle.std.specs.Prelude.{◌≡◌, true, cond, List, [], ◌∷◌, ℕ, ◌+◌, ◌-◌, ◌*◌, ◌/◌, ◌%◌, eqb, ltb, Result}
 use Rattle.records.specs.Meaning.Lists.{tab}
 use Rattle.sheet.specs.Meaning.Decoded.{Automaton, Decoded}
 use Rattle.solve.specs.Model.Making.{sheet_of, making_number}
 use Rattle.solve.specs.Meaning.Made.{made_number, made_states}
+use Rattle.sheet.specs.declared.layout.Refusal.{Refusal}
 use Rattle.solve.specs.declared.made.Made.{Made}
 
 -- a counter of n states in state q after output o: one further if the line is on, and from the last to the first; `power` is
@@ -57,6 +58,7 @@ sheet_bytes n m = tab (27 + n * 5 + m * 5) (sheet_byte n m)
 
 -- ---- what the makers answer to bytes: document 01's number, and the states of the table
 
-pub record Answered (table : Decoded → List ℕ) (stateCounts : Decoded → ℕ) (s : List ℕ) (room : ℕ) (r : Made) : Type 0 where
+pub record Answered (table : Decoded → List ℕ) (stateCounts : Decoded → ℕ) (s : List ℕ) (room : ℕ) (r : Result Made Refusal) :
+    Type 0 where
   pub number : made_number r ≡ making_number table true s room
   pub states : made_states r ≡ cond (eqb (made_number r) 0) (stateCounts (sheet_of s)) 0

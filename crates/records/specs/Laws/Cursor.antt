@@ -1,30 +1,28 @@
 -- Laws of the cursor: what it finds, and where a record that it finds lies.
 -- Assumes nothing.
-use Rattle.std.specs.Prelude.{◌≡◌, true, false, cond, List, ℕ, ◌+◌, ◌-◌, ◌*◌, ◌≤◌, ◌<◌, ltb, leb, length, get_or}
-use Rattle.std.proofs.Common.{ap, add-zero, add_assoc, arith, leb-true, leb-false, ltb-true, ltb-false, le-leb, lt-ltb, le-ltb}
+use Rattle.std.specs.Prelude.{◌≡◌, true, false, cond, List, ℕ, ◌+◌, ◌-◌, ◌*◌, ◌≤◌, ◌<◌, ltb, leb, length, get_or, Option, Some, None, Ok, Err}
+use Rattle.std.proofs.Common.{sym, ◌∙◌, add-zero, add_assoc, arith, leb-true, leb-false, ltb-true, ltb-false, le-leb, lt-ltb, le-ltb}
 use Rattle.std.proofs.lemmas.Bool.{lt-leb}
 use Rattle.records.specs.Laws.Tests.{by_test}
 use Rattle.records.specs.Meaning.Lists.{tab}
 use Rattle.records.specs.Model.Lists.{part}
 use Rattle.records.specs.Meaning.Numbers.{Bytes, u16_at}
 use Rattle.records.specs.Laws.Numbers.{u16_low, u16_high}
-use Rattle.records.specs.declared.cursor.Cursor.{Cursor}
-use Rattle.records.specs.declared.cursor.Found.{Found}
-use Rattle.records.specs.declared.cursor.Found.TheVariants.{Record, Truncated, End}
-use Rattle.records.specs.Meaning.Records.{header, size_at, kind_at, body_at, end_at, record_at, read_at, is_cut, found_number}
+use Rattle.records.specs.declared.cursor.Record.{Record}
+use Rattle.records.specs.Meaning.Records.{header, size_at, kind_at, body_at, end_at, Found, record_at, read_at, past, is_cut, found_number}
 use Rattle.records.specs.Promises.Cursor.{Finds}
 
 -- where a record lies: its parts are read where they stand, and its body ends within the bytes
-pub record Lies (s : List ℕ) (at kind start size : ℕ) (next : Cursor) : Type 0 where
-  pub is_kind : kind ≡ kind_at s at
-  pub is_start : start ≡ body_at at
-  pub is_size : size ≡ size_at s at
-  pub is_next : next.at ≡ start + size
-  pub inside : next.at ≤ length s
+pub record Lies (s : List ℕ) (at next : ℕ) (r : Record) : Type 0 where
+  pub is_kind : r.kind ≡ kind_at s at
+  pub is_start : r.start ≡ body_at at
+  pub is_size : r.size ≡ size_at s at
+  pub is_next : next ≡ r.start + r.size
+  pub inside : next ≤ length s
 
 -- the three that a cursor can find, each with what it says of the bytes
-pub read_cases {ℓ} : {X : Type ℓ} (s : List ℕ) (at : ℕ) → (read_at s at ≡ End → length s ≤ at → X)
-    → (read_at s at ≡ Truncated → at < length s → X)
+pub read_cases {ℓ} : {X : Type ℓ} (s : List ℕ) (at : ℕ) → (read_at s at ≡ Ok None → length s ≤ at → X)
+    → (read_at s at ≡ Err (record {}) → at < length s → X)
     → (read_at s at ≡ record_at s at → end_at s at ≤ length s → X) → X
 unfolding read_at
 read_cases s at end short found =
@@ -34,20 +32,19 @@ read_cases s at end short found =
     (λ g. found (rw (e, f, g))
     (omega (arith, leb-false (length s) at e, ltb-false (length s - at) 4 f, ltb-false (length s - (at + 4)) (u16_at s at) g)))))
 
--- a record that was found lies where the cursor stood
-pub lies : (s : List ℕ) (at : ℕ) {kind start size : ℕ} {next : Cursor} → read_at s at ≡ Record kind start size next
-    → Lies s at kind start size next
-lies s at {kind} {start} {size} {next} e =
+-- a record that was found lies where the cursor stood, which goes past it
+pub lies : {s : List ℕ} {at next : ℕ} {f : Found} → Finds s at next f → {r : Record} → f ≡ Ok (Some r) → Lies s at next r
+lies {s} {at} {next} {f} w {r} e =
+    let m : read_at s at ≡ Ok (Some r) = sym w.whole ∙ e in
+    let n : next ≡ r.start + r.size = rw e at w.stands in
     read_cases s at
-    (λ f h. absurd (let z : ◌≡◌ {A = ℕ} 0 1 = cc in omega arith))
-    (λ f h. absurd (let z : ◌≡◌ {A = ℕ} 0 1 = cc in omega arith))
-    (λ f h.
-    let k : kind ≡ u16_at s (at + 2) = cc in
-    let b : start ≡ at + 4 = cc in
-    let z : size ≡ u16_at s at = cc in
-    let n : next ≡ record { at = at + 4 + u16_at s at } = cc in
-    let m : next.at ≡ at + 4 + u16_at s at = ap (λ (x : Cursor). x.at) n in
-    record { is_kind = k; is_start = b; is_size = z; is_next = omega arith; inside = omega arith })
+    (λ g h. absurd (let z : ◌≡◌ {A = Option Record} None (Some r) = cc in let y : ◌≡◌ {A = ℕ} 0 1 = cc in omega arith))
+    (λ g h. absurd (let z : ◌≡◌ {A = ℕ} 0 1 = cc in omega arith))
+    (λ g h.
+    let q : r ≡ record { kind = kind_at s at; start = body_at at; size = size_at s at } = cc in
+    let b : r.start ≡ body_at at = rw q in
+    let z : r.size ≡ size_at s at = rw q in
+    record { is_kind = rw q; is_start = b; is_size = z; is_next = n; inside = omega arith })
 
 -- what is found has document 01's number: 1 exactly where the record is cut
 found_number_lem : (s : List ℕ) (at : ℕ) → found_number (read_at s at) ≡ cond (is_cut s at) 1 0
@@ -67,11 +64,11 @@ found_number_lem s at =
     (λ g. rw (e, f, g, left, whole, le-ltb (length s) past (omega (arith, ltb-false (length s - (at + 4)) (u16_at s at) g))))))
 
 -- so an answer that is the model's keeps the promise
-pub finds : {s : List ℕ} {at : ℕ} {r : Found} → r ≡ read_at s at → Finds s at r
-finds {s} {at} e = record { whole = e; number = rw e (found_number_lem s at) }
+pub finds : {s : List ℕ} {at next : ℕ} {r : Found} → r ≡ read_at s at → next ≡ past r at → Finds s at next r
+finds {s} {at} e n = record { whole = e; number = rw e (found_number_lem s at); stands = n }
 
 -- at the end of the bytes
-pub read_end : (s : List ℕ) (at : ℕ) → length s ≤ at → read_at s at ≡ End
+pub read_end : (s : List ℕ) (at : ℕ) → length s ≤ at → read_at s at ≡ Ok None
 unfolding read_at
 read_end s at h = rw (le-leb (length s) at h)
 

@@ -118,6 +118,14 @@ put_ext {A} (x ∷ d) (suc n) f g h =
     ap₂ (λ (a : A) (t : List A). a ∷ t) (h 0 (omega arith))
     (put_ext d n (λ k. f (suc k)) (λ k. g (suc k)) (λ k l. h (suc k) (suc-le-suc l)))
 
+-- a front of one element, as it is when a part of the list is filled
+pub put-fill {ℓ} : {A : Type ℓ} (d : List A) (n : ℕ) (x : A) → n ≤ length d → replicate n x ++ drop n d ≡ put d n (λ k. x)
+unfolding put
+put-fill [] zero x h = refl
+put-fill [] (suc n) x h = absurd (omega arith)
+put-fill (y ∷ d) zero x h = refl
+put-fill {A} (y ∷ d) (suc n) x h = ap (λ (t : List A). x ∷ t) (put-fill d n x (le_of_suc-le-suc h))
+
 -- a front that is the whole list
 pub put-tab : (d : List ℕ) (n : ℕ) (f : ℕ → ℕ) → length d ≡ n → put d n f ≡ tab n f
 put-tab d n f e = tab_eq 0 n f (put d n f) (length-put d n f ∙ e) (λ k h. get_d_put-front d n f k 0 h (omega arith))

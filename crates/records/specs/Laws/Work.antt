@@ -1,9 +1,12 @@
 -- Work memory that is long enough, slice by slice.
 -- Assumes nothing.
-use Rattle.std.specs.Prelude.{◌≡◌, refl, true, List, [], ◌∷◌, ℕ, ◌≤◌, leb}
+use Rattle.std.specs.Prelude.{◌≡◌, refl, true, false, List, [], ◌∷◌, ℕ, zero, suc, ◌≤◌, ◌<◌, length, get_or, leb}
 use Rattle.std.proofs.Common.{arith, leb-true, le-leb}
+use Rattle.std.proofs.lemmas.Bool.{lt-leb}
+use native.Mathlib.Nat.{le_of_suc-le-suc}
+use Prim.Native.Nat.{suc-le-suc}
 use Rattle.records.specs.Meaning.Work.{Slice, long_enough}
-use Rattle.records.specs.Laws.Tests.{both_ways, and_left, and_right}
+use Rattle.records.specs.Laws.Tests.{both_ways, by_test, and_left, and_right}
 
 -- each slice has its length
 unfoldable pub Long : List Slice → List ℕ → Type 0
@@ -29,3 +32,23 @@ pub exactly_enough : (work : List Slice) → long_enough work (exactly work) ≡
 unfolding long_enough exactly
 exactly_enough [] = refl
 exactly_enough (s ∷ work) = rw (le-leb s.asked s.asked (omega arith)) (exactly_enough work)
+
+-- as many lengths as slices, none of them short
+pub all_long : (work : List Slice) (lent : List ℕ) → length lent ≡ length (exactly work)
+    → ((k : ℕ) → k < length lent → get_or (exactly work) k 0 ≤ get_or lent k 0) → long_enough work lent ≡ true
+unfolding long_enough exactly
+all_long [] lent e h = refl
+all_long (s ∷ work) [] e h = absurd (omega arith)
+all_long (s ∷ work) (n ∷ lent) e h =
+    rw (le-leb s.asked n (h 0 (omega arith))) (all_long work lent (omega arith) (λ k l. h (suc k) (suc-le-suc l)))
+
+-- and one that is
+pub one_short : (work : List Slice) (lent : List ℕ) (k : ℕ) → k < length lent → get_or lent k 0 < get_or (exactly work) k 0
+    → long_enough work lent ≡ false
+unfolding long_enough exactly
+one_short [] lent k l h = absurd (omega arith)
+one_short (s ∷ work) [] k l h = refl
+one_short (s ∷ work) (n ∷ lent) zero l h = rw (lt-leb s.asked n h)
+one_short (s ∷ work) (n ∷ lent) (suc k) l h =
+    let rest : long_enough work lent ≡ false = one_short work lent k (le_of_suc-le-suc l) h in
+    by_test (leb s.asked n) (λ e. rw (e, rest)) (λ e. rw e)

@@ -1,9 +1,9 @@
 -- Records: a two-byte length of the body, a two-byte kind, then the body; and what stands at a place of a list of them.
 -- Assumes nothing.
-use Rattle.std.specs.Prelude.{Bool, cond, ◌&&◌, ◌||◌, List, ◌++◌, ℕ, ◌+◌, ◌-◌, ltb, leb, length}
+use Rattle.std.specs.Prelude.{Bool, cond, ◌&&◌, ◌||◌, List, ◌++◌, ℕ, ◌+◌, ◌-◌, ltb, leb, length, Option, Some, None, Result, Ok, Err}
 use Rattle.records.specs.Meaning.Numbers.{u16_at, u16_bytes}
-use Rattle.records.specs.declared.cursor.Found.{Found}
-use Rattle.records.specs.declared.cursor.Found.TheVariants.{Record, Truncated, End}
+use Rattle.records.specs.declared.cursor.Record.{Record}
+use Rattle.records.specs.declared.cursor.Truncated.{Truncated}
 
 -- a record's bytes before its body
 abbrev pub header : ℕ → ℕ → List ℕ
@@ -25,16 +25,26 @@ body_at at = at + header_size
 abbrev pub end_at : List ℕ → ℕ → ℕ
 end_at s at = body_at at + size_at s at
 
--- what a cursor finds where a record lies inside the bytes
-abbrev pub record_at : List ℕ → ℕ → Found
-record_at s at = Record (kind_at s at) (body_at at) (size_at s at) (record { at = end_at s at })
+-- what a cursor finds: a record, or nothing at the end; or it says that a record is cut
+abbrev pub Found : Type 0
+Found = Result (Option Record) Truncated
 
--- what a cursor finds: the end; too few bytes for a record; or a record
+-- where a record lies inside the bytes
+abbrev pub record_at : List ℕ → ℕ → Found
+record_at s at = Ok (Some (record { kind = kind_at s at; start = body_at at; size = size_at s at }))
+
+-- the end; too few bytes for a record; or a record
 unfoldable pub read_at : List ℕ → ℕ → Found
 read_at s at =
-    cond (leb (length s) at) End
-    (cond (ltb (length s - at) header_size) Truncated
-    (cond (ltb (length s - body_at at) (size_at s at)) Truncated (record_at s at)))
+    cond (leb (length s) at) (Ok None)
+    (cond (ltb (length s - at) header_size) (Err (record {}))
+    (cond (ltb (length s - body_at at) (size_at s at)) (Err (record {})) (record_at s at)))
+
+-- where the cursor stands then: past the record that it found, else where it stood
+abbrev pub past : Found → ℕ → ℕ
+past (Ok (Some r)) at = r.start + r.size
+past (Ok None) at = at
+past (Err e) at = at
 
 -- ground 1: 1 to 3 bytes left for a record, or its body runs past the end
 unfoldable pub is_cut : List ℕ → ℕ → Bool
@@ -42,6 +52,5 @@ is_cut s at = ltb at (length s) && (ltb (length s) (body_at at) || ltb (length s
 
 -- document 01's number of what was found, 0 for no refusal
 abbrev pub found_number : Found → ℕ
-found_number (Record kind start size next) = 0
-found_number Truncated = 1
-found_number End = 0
+found_number (Ok r) = 0
+found_number (Err e) = 1

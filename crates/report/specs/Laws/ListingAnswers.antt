@@ -1,6 +1,7 @@
 -- Laws of the answers, of how long a listing is, and of the listing of a made table.
 -- Assumes nothing.
-use Rattle.std.specs.Prelude.{◌≡◌, refl, Bool, true, ℕ, zero, suc, ◌*◌, ◌^◌, ◌≤◌, ◌<◌, leb, length, take}
+use Rattle.std.specs.Prelude.{◌≡◌, refl, Bool, true, ℕ, zero, suc, ◌*◌, ◌^◌, ◌≤◌, ◌<◌, leb, length, take, Result, Ok, Err}
+use Rattle.std.specs.Result.{result_unwrap_or}
 use Rattle.std.proofs.Math.Path.{ap}
 use Rattle.std.proofs.Common.{◌∙◌, suc-mul, zero-add, arith, length-append, pow_mono}
 use mathlib.Core.List.{List, ◌∷◌, ◌++◌}
@@ -24,15 +25,14 @@ use Rattle.sheet.specs.Meaning.Grounds.{ground_number}
 use Rattle.sheet.specs.declared.layout.Refusal.{Refusal}
 use Rattle.sheet.specs.declared.layout.Refusal.TheVariants.{Truncated, Misplaced, BadHead, BadMonitor, SeventhMonitor, LongHorizon, TooManyStates, Unrealizable, ShortResult, ShortWork}
 use Rattle.solve.specs.declared.made.Made.{Made}
-use Rattle.solve.specs.declared.made.Made.TheVariants.{Table, Refused}
-use Rattle.report.specs.Promises.Report.{listed_number, text_number, text_length, Writes, outcome_due, outcome_text}
-use Rattle.report.specs.declared.Listed.{Listed}
-use Rattle.report.specs.declared.Listed.TheVariants.{Text, ShortText}
+use Rattle.report.specs.Promises.Report.{listed_number, listed_length, text_number, text_length, Writes, outcome_due, outcome_text}
+use Rattle.report.specs.declared.ListRefusal.{ListRefusal}
+use Rattle.report.specs.declared.ListRefusal.TheVariants.{ShortText}
 
 -- ---- the answer
 
 pub writes_text : {due : Bool} {place : ℕ} {words before after : List ℕ} → due ≡ true → Put before 0 words place after
-    → length words ≤ length before → Writes due words before (Text place) after
+    → length words ≤ length before → Writes due words before (Ok place) after
 unfolding text_number
 writes_text {place = place} {words} {before} e p h =
     let size : place ≡ length words = p.place_is ∙ zero-add (length words) in
@@ -44,31 +44,36 @@ writes_text {place = place} {words} {before} e p h =
     }
 
 pub writes_short : {due : Bool} {words before : List ℕ} → due ≡ true → length before < length words
-    → Writes due words before ShortText before
+    → Writes due words before (Err ShortText) before
 unfolding text_number
 writes_short {words = words} {before} e h =
     record { number_is = rw (e, lt-ltb (length before) (length words) h); size = refl; bytes = refl; inside = omega arith }
 
 -- a text that is due and fits is written
-pub writes_fits : {due : Bool} {words before : List ℕ} {r : Listed} {after : List ℕ} → Writes due words before r after → due ≡ true
+pub writes_fits : {due : Bool} {words before : List ℕ} {r : Result ℕ ListRefusal} {after : List ℕ} → Writes due words before r after → due ≡ true
     → length words ≤ length before → listed_number r ≡ 0
 unfolding text_number
 writes_fits {words = words} {before} w e h = w.number_is ∙ rw (e, le-ltb (length before) (length words) h)
 
+-- the length of a text that was written, 0 on a refusal
+pub length_given : (r : Result ℕ ListRefusal) → result_unwrap_or r 0 ≡ listed_length r
+length_given (Ok size) = refl
+length_given (Err cause) = refl
+
 -- what was made is told by the call for its case
-module _ (made : Made) (result : List ℕ) {before : List ℕ} where
-  pub outcome_refused : {cause : Refusal} → made ≡ Refused cause → {r : Listed} {number : ℕ} {after : List ℕ}
+module _ (made : Result Made Refusal) (result : List ℕ) {before : List ℕ} where
+  pub outcome_refused : {cause : Refusal} → made ≡ Err cause → {r : Result ℕ ListRefusal} {number : ℕ} {after : List ℕ}
       → number ≡ ground_number cause
       → Writes true (refused_text number) before r after → Writes (outcome_due made result) (outcome_text made result) before r after
   unfolding outcome_due outcome_text
   outcome_refused e f w = rw (e, ← f) w
 
-  module _ {size states : ℕ} (e : made ≡ Table size states) where
-    pub outcome_listed : size ≤ length result → {r : Listed} {after : List ℕ}
-        → Writes (loadable (take size result)) (listing_of (take size result)) before r after
+  module _ {table : Made} (e : made ≡ Ok table) where
+    pub outcome_listed : table.length ≤ length result → {r : Result ℕ ListRefusal} {after : List ℕ}
+        → Writes (loadable (take table.length result)) (listing_of (take table.length result)) before r after
         → Writes (outcome_due made result) (outcome_text made result) before r after
     unfolding outcome_due outcome_text
-    outcome_listed h w = rw (e, le-leb size (length result) h) w
+    outcome_listed h w = rw (e, le-leb table.length (length result) h) w
 
 -- ---- how long a listing is
 
@@ -155,11 +160,11 @@ ground_most ShortResult = omega arith
 ground_most ShortWork = omega arith
 
 -- no text that is due for a maker's answer is longer than the longest listing
-pub outcome_most : (made : Made) (result : List ℕ) → outcome_due made result ≡ true → length (outcome_text made result) ≤ text_length
+pub outcome_most : (made : Result Made Refusal) (result : List ℕ) → outcome_due made result ≡ true → length (outcome_text made result) ≤ text_length
 unfolding outcome_due outcome_text
-outcome_most (Table size states) result e = listing_most (take size result)
-    (and_right (leb size (length result)) (loadable (take size result)) e)
-outcome_most (Refused cause) result e =
+outcome_most (Ok made) result e = listing_most (take made.length result)
+    (and_right (leb made.length (length result)) (loadable (take made.length result)) e)
+outcome_most (Err cause) result e =
     let number = ground_number cause in
     omega (arith, length-refused number, three_most number (omega (arith, ground_most cause)))
 

@@ -1,6 +1,6 @@
 -- The bytes of a sheet in bounds are accepted, and the layout stands for that sheet.
 -- Assumes nothing.
-use Rattle.std.specs.Prelude.{◌≡◌, true, eqb, get_or}
+use Rattle.std.specs.Prelude.{◌≡◌, true, eqb, get_or, Ok}
 use Rattle.std.proofs.Math.Path.{refl, sym, ap}
 use Rattle.std.proofs.Common.{◌∙◌, mul-le-mul, length-append, get_or-append-add, pow_mono}
 use mathlib.Core.List.{List, [], ◌∷◌, ◌++◌, append_assoc, append-nil}
@@ -27,6 +27,7 @@ use Rattle.sheet.specs.Laws.Turns.{offset, upto, Turn, Chain, chain_reads, place
 use Rattle.sheet.specs.Laws.Judged.{JudgedNumbers, Literals, head-test}
 use Rattle.sheet.specs.Laws.Sound.{literal_is}
 use Rattle.sheet.specs.Laws.MonitorBytes.{row_bytes, length_monitor, size_back, kind_back, monitor_passes, monitor_back}
+use Rattle.sheet.specs.declared.layout.Sheet.{Sheet}
 
 -- ---- the head
 
@@ -236,12 +237,13 @@ module _ (d : Decoded) (o : SheetOk d) where
 -- ---- what a sheet in bounds promises
 
 -- its bytes are accepted
-pub encode-accepted : (d : Decoded) → SheetOk d → verdict_number (reading (encode d)).verdict ≡ 0
+pub encode-accepted : (d : Decoded) → SheetOk d → verdict_number (reading (encode d)) ≡ 0
 encode-accepted d o = rw (chain_reads (encode d) (length d.monitors) (chain d o))
 
 -- and read as that sheet
-pub decode_encode : (d : Decoded) → SheetOk d → decoded (encode d) (reading (encode d)).sheet ≡ d
-decode_encode d o = rw (chain_reads (encode d) (length d.monitors) (chain d o)) (decoded_back d o)
+pub decode_encode : (d : Decoded) → SheetOk d → (h : Sheet) × (reading (encode d) ≡ Ok h) × (decoded (encode d) h ≡ d)
+decode_encode d o =
+    (upto (encode d) (length d.monitors), chain_reads (encode d) (length d.monitors) (chain d o), decoded_back d o)
 
 -- ---- they are bytes
 

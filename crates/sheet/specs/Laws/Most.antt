@@ -1,11 +1,9 @@
 -- The number that is due for a sheet's records is at most 6: the grounds after it are other calls' affair.
 -- Assumes nothing.
-use Rattle.std.specs.Prelude.{Bool, true, false, cond, List, ℕ, zero, suc, ◌≤◌, eqb, ltb, leb, length}
+use Rattle.std.specs.Prelude.{Bool, true, false, cond, List, ℕ, zero, suc, ◌≤◌, eqb, ltb, leb, length, Ok, Err}
 use Rattle.std.proofs.Common.{arith}
-use Rattle.records.specs.Meaning.Records.{read_at, found_number, size_at, kind_at, body_at, end_at}
+use Rattle.records.specs.Meaning.Records.{Found, read_at, found_number, size_at, kind_at, body_at, end_at}
 use Rattle.records.specs.Meaning.Limits.{max_monitors, horizon_ok}
-use Rattle.records.specs.declared.cursor.Found.{Found}
-use Rattle.records.specs.declared.cursor.Found.TheVariants.{Record, Truncated, End}
 use Rattle.sheet_fields.specs.Meaning.Places.{mode_at, site_at, outputs_at, horizon_at}
 use Rattle.sheet_fields.specs.Meaning.Lines.{guard_lines}
 use Rattle.sheet_fields.specs.Meaning.Head.{head_ok}
@@ -21,9 +19,8 @@ firstly zero y h k = k
 firstly (suc x) y h k = h
 
 found_most : (f : Found) → found_number f ≤ 6
-found_most (Record kind start size next) = omega arith
-found_most Truncated = omega arith
-found_most End = omega arith
+found_most (Ok r) = omega arith
+found_most (Err e) = omega arith
 
 head_most : (s : List ℕ) (start size : ℕ) → head_number s start size ≤ 6
 unfolding head_number

@@ -1,6 +1,6 @@
 -- A sheet that is accepted is one in bounds, and its bytes are those of the sheet that the layout stands for.
 -- Assumes nothing.
-use Rattle.std.specs.Prelude.{◌≡◌}
+use Rattle.std.specs.Prelude.{◌≡◌, Ok}
 use Rattle.std.proofs.Math.Path.{refl, sym, ap, ap₂}
 use Rattle.std.proofs.Common.{◌∙◌, add_assoc, add-zero, lt-ltb}
 use mathlib.Core.List.{List, [], ◌∷◌, ◌++◌, append-nil, append_assoc}
@@ -18,7 +18,7 @@ use Rattle.records.specs.Laws.Cursor.{header_there}
 use Rattle.records.specs.Meaning.Limits.{max_outputs, max_monitor_states}
 use Rattle.records.specs.Laws.Limits.{Horizon, horizon_facts}
 use Rattle.sheet.specs.Meaning.Decoded.{Decoded, monitor_of, guard_lines, letters_read, HeadOk, HorizonOk, MonitorOk, SheetOk, encode_head, encode_monitor, encode}
-use Rattle.sheet.specs.Meaning.Grounds.{verdict_number}
+use Rattle.sheet.specs.Laws.Grounds.{given, ok_inj}
 use Rattle.sheet.specs.Model.Where.{width, automaton, decoded, Fits}
 use Rattle.sheet_fields.specs.Meaning.Places.{mode_at, site_at, outputs_at, horizon_at, matching_at, literals_from, monitor_numbers, role_at, weight_at, states_at, first_at}
 use Rattle.sheet_fields.specs.Model.Head.{literal_at}
@@ -241,9 +241,15 @@ module _ (s : List ℕ) (b : Bytes s) (k : ℕ) (c : Chain s k) where
   same = rw (length_monitors s (upto s k)) (blocks k (omega arith) ∙ ap (λ (n : ℕ). part s 0 n) c.ends ∙ part-whole s)
 
 -- an accepted sheet's layout stands for a sheet in bounds, inside the bytes
-pub accepted_fits : (s : List ℕ) → Bytes s → verdict_number (reading s).verdict ≡ 0 → Fits s (reading s).sheet
-accepted_fits s b e = let r = chain_of s e in rw r.2 (fits s b r.0 r.1)
+pub accepted_fits : (s : List ℕ) → Bytes s → (h : Sheet) → reading s ≡ Ok h → Fits s h
+accepted_fits s b h e =
+    let r = chain_of s (given e) in
+    let q : h ≡ upto s r.0 = ok_inj (sym e ∙ r.2) in
+    rw q (fits s b r.0 r.1)
 
 -- and its bytes are those of that sheet
-pub accepted-same : (s : List ℕ) → Bytes s → verdict_number (reading s).verdict ≡ 0 → encode (decoded s (reading s).sheet) ≡ s
-accepted-same s b e = let r = chain_of s e in rw r.2 (same s b r.0 r.1)
+pub accepted-same : (s : List ℕ) → Bytes s → (h : Sheet) → reading s ≡ Ok h → encode (decoded s h) ≡ s
+accepted-same s b h e =
+    let r = chain_of s (given e) in
+    let q : h ≡ upto s r.0 = ok_inj (sym e ∙ r.2) in
+    rw q (same s b r.0 r.1)

@@ -1,7 +1,7 @@
 -- The records of an accepted sheet in turn, by index: where each begins, the layout after so many monitors, and that the
 -- reader accepts exactly where each turn passes its tests and the last one ends with the bytes.
 -- Assumes nothing.
-use Rattle.std.specs.Prelude.{◌≡◌, refl, Bool, true, false, cond, List, ℕ, zero, suc, ◌+◌, ◌≤◌, ◌<◌, eqb, leb, length, set, replicate}
+use Rattle.std.specs.Prelude.{◌≡◌, refl, Bool, true, false, cond, List, ℕ, zero, suc, ◌+◌, ◌≤◌, ◌<◌, eqb, leb, length, set, replicate, Result, Ok, Err}
 use Rattle.std.proofs.Common.{◌∙◌, zero-add, add-zero, add-suc, add-one, arith, length-set, get_or-set_same, get_or-set_other, eqb-true, leb-false, eq-eqb}
 use Rattle.std.proofs.lemmas.Bool.{lt-leb}
 use Rattle.records.specs.Laws.Tests.{by_test}
@@ -10,7 +10,7 @@ use Rattle.records.specs.Meaning.Records.{size_at, kind_at, body_at, end_at}
 use Rattle.records.specs.Laws.Cursor.{read_cases, read_end, read_record}
 use Rattle.records.specs.Meaning.Limits.{max_monitors, horizon_ok}
 use Rattle.sheet.specs.Meaning.Decoded.{guard_lines}
-use Rattle.sheet.specs.Model.Layout.{no_monitor, accepted, refused, with_monitor}
+use Rattle.sheet.specs.Model.Layout.{no_monitor, with_monitor}
 use Rattle.sheet.specs.Meaning.Grounds.{verdict_number}
 use Rattle.sheet.specs.Model.Where.{placed}
 use Rattle.sheet_fields.specs.Meaning.Places.{mode_at, site_at, outputs_at, horizon_at, matching_at}
@@ -23,7 +23,7 @@ use Rattle.sheet.specs.Laws.Verdicts.{chained}
 use Rattle.sheet.specs.declared.layout.Monitor.{Monitor}
 use Rattle.sheet.specs.declared.layout.Sheet.{Sheet}
 use Rattle.sheet.specs.declared.layout.Refusal.TheVariants.{Misplaced, BadHead, BadMonitor, SeventhMonitor, LongHorizon}
-use Rattle.sheet.specs.declared.layout.Reading.{Reading}
+use Rattle.sheet.specs.declared.layout.Refusal.{Refusal}
 
 -- where the record of monitor j begins, if there is one; each ends where the next begins
 unfoldable pub offset : List ℕ → ℕ → ℕ
@@ -106,8 +106,8 @@ offset_up s j (suc m) = rw (add-suc j m) (omega (arith, offset_up s j m))
 -- ---- one record
 
 -- a record that is accepted passes its tests
-take-passes : (s : List ℕ) (h : Sheet) (kind start size : ℕ) (next : Sheet → Reading)
-    → chained (take_record s h kind start size) next ≡ 0
+take-passes : (s : List ℕ) (h : Sheet) (kind start size : ℕ) (next : Sheet → Result Sheet Refusal)
+    → chained (take_record s h (record { kind = kind; start = start; size = size })) next ≡ 0
     → (eqb kind 2 ≡ true) × (leb max_monitors h.count ≡ false) × (monitor_ok s h.mode h.site h.outputs start size ≡ true)
 unfolding take_record take_monitor
 take-passes s h kind start size next = go (eqb kind 2) (leb max_monitors h.count)
@@ -115,8 +115,8 @@ take-passes s h kind start size next = go (eqb kind 2) (leb max_monitors h.count
   where
     go : (a b c : Bool)
         → chained
-        (cond a (cond b (refused SeventhMonitor) (cond c (accepted (with_monitor h (monitor_at s start))) (refused BadMonitor)))
-        (refused Misplaced))
+        (cond a (cond b (Err SeventhMonitor) (cond c (Ok (with_monitor h (monitor_at s start))) (Err BadMonitor)))
+        (Err Misplaced))
         next ≡ 0
         → (a ≡ true) × (b ≡ false) × (c ≡ true)
     go true true c e = absurd (omega arith)
@@ -127,11 +127,11 @@ take-passes s h kind start size next = go (eqb kind 2) (leb max_monitors h.count
 -- and one that passes them is accepted
 take-accepts : (s : List ℕ) (h : Sheet) (kind start size : ℕ) → kind ≡ 2 → h.count < max_monitors
     → monitor_ok s h.mode h.site h.outputs start size ≡ true
-    → take_record s h kind start size ≡ accepted (with_monitor h (monitor_at s start))
+    → take_record s h (record { kind = kind; start = start; size = size }) ≡ Ok (with_monitor h (monitor_at s start))
 unfolding take_record take_monitor
 take-accepts s h kind start size e l m = rw (eq-eqb kind 2 e, lt-leb max_monitors h.count l, m)
 
-head-passes : (s : List ℕ) (start size : ℕ) (next : Sheet → Reading) → chained (read_head s start size) next ≡ 0
+head-passes : (s : List ℕ) (start size : ℕ) (next : Sheet → Result Sheet Refusal) → chained (read_head s start size) next ≡ 0
     → (head_ok s start size ≡ true)
     × (horizon_ok (guard_lines (mode_at s start) (site_at s start) (outputs_at s start)) (horizon_at s start) ≡ true)
 unfolding read_head
@@ -139,7 +139,7 @@ head-passes s start size next =
     go (head_ok s start size) (horizon_ok (guard_lines (mode_at s start) (site_at s start) (outputs_at s start)) (horizon_at s start))
   where
     go : (a b : Bool)
-        → chained (cond a (cond b (accepted (head_sheet s start)) (refused LongHorizon)) (refused BadHead)) next ≡ 0
+        → chained (cond a (cond b (Ok (head_sheet s start)) (Err LongHorizon)) (Err BadHead)) next ≡ 0
         → (a ≡ true) × (b ≡ true)
     go true true e = (refl, refl)
     go true false e = absurd (omega arith)
@@ -153,7 +153,7 @@ record Walk (n : ℕ) (s : List ℕ) (j k : ℕ) : Type 0 where
   count : k ≤ max_monitors
   turn : (i : ℕ) → j ≤ i → i < k → Turn s i
   ends : offset s k ≡ length s
-  whole : read_records n s (upto s j) (offset s j) ≡ accepted (upto s k)
+  whole : read_records n s (upto s j) (offset s j) ≡ Ok (upto s k)
 
 turn_here : (s : List ℕ) (j k : ℕ) → Turn s j → ((i : ℕ) → suc j ≤ i → i < k → Turn s i) → (i : ℕ) → j ≤ i → i < k → Turn s i
 turn_here s j k t f i h l = elim (native.Mathlib.Decide.ℕ_discrete i j) [ yes e ↦ rw e t | no e ↦ f i (omega arith) l ]
@@ -169,7 +169,7 @@ step_whole n s j l t h =
     )
 
 walk_finds : (n : ℕ) (s : List ℕ) (j : ℕ) → j ≤ max_monitors → offset s j ≤ length s
-    → verdict_number (read_records n s (upto s j) (offset s j)).verdict ≡ 0 → (k : ℕ) × Walk n s j k
+    → verdict_number (read_records n s (upto s j) (offset s j)) ≡ 0 → (k : ℕ) × Walk n s j k
 unfolding read_records on_found offset
 walk_finds zero s j h l e = absurd (omega arith)
 walk_finds (suc n) s j h l e =
@@ -191,12 +191,12 @@ walk_finds (suc n) s j h l e =
         count = r.1.count;
         turn = turn_here s j r.0 t r.1.turn;
         ends = r.1.ends;
-        whole = more ∙ r.1.whole;
+        whole = ◌∙◌ {c = Ok (upto s r.0)} more r.1.whole;
       },
     ))
 
 walk_reaches : (m n : ℕ) (s : List ℕ) (j k : ℕ) → j + m ≡ k → m < n → k ≤ max_monitors → ((i : ℕ) → i < k → Turn s i) → offset s k ≡ length s
-    → read_records n s (upto s j) (offset s j) ≡ accepted (upto s k)
+    → read_records n s (upto s j) (offset s j) ≡ Ok (upto s k)
 unfolding read_records on_found
 walk_reaches m zero s j k q l h t e = absurd (omega arith)
 walk_reaches zero (suc n) s j k q l h t e =
@@ -216,7 +216,7 @@ unfolding reading first_found read_head offset
 head-whole s k a b h = rw (read_record s 0 h, eq-eqb (kind_at s 0) 1 k, a, b, upto_none s)
 
 -- an accepted sheet is a head and monitors that pass their tests, and its layout is theirs
-pub chain_of : (s : List ℕ) → verdict_number (reading s).verdict ≡ 0 → (k : ℕ) × Chain s k × (reading s ≡ accepted (upto s k))
+pub chain_of : (s : List ℕ) → verdict_number (reading s) ≡ 0 → (k : ℕ) × Chain s k × (reading s ≡ Ok (upto s k))
 unfolding reading first_found offset
 chain_of s e =
     read_cases s 0
@@ -245,7 +245,7 @@ chain_of s e =
     (λ t. absurd (let z : ◌≡◌ {A = ℕ} 2 0 = rw (f, t) at e in omega arith)))
 
 -- and where they do, the sheet is accepted with that layout
-pub chain_reads : (s : List ℕ) (k : ℕ) → Chain s k → reading s ≡ accepted (upto s k)
+pub chain_reads : (s : List ℕ) (k : ℕ) → Chain s k → reading s ≡ Ok (upto s k)
 unfolding offset
 chain_reads s k c =
     let up : offset s 0 + k ≤ offset s k = rw (zero-add k) at (offset_up s 0 k) in

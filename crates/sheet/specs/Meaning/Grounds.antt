@@ -1,10 +1,9 @@
 -- Document 01's numbers of the grounds on which a maker refuses.
 -- Assumes nothing.
-use Rattle.std.specs.Prelude.{ℕ}
+use Rattle.std.specs.Prelude.{ℕ, Result}
+use Rattle.records.specs.Meaning.Answers.{number_in}
 use Rattle.sheet.specs.declared.layout.Refusal.{Refusal}
 use Rattle.sheet.specs.declared.layout.Refusal.TheVariants.{Truncated, Misplaced, BadHead, BadMonitor, SeventhMonitor, LongHorizon, TooManyStates, Unrealizable, ShortResult, ShortWork}
-use Rattle.sheet.specs.declared.layout.Verdict.{Verdict}
-use Rattle.sheet.specs.declared.layout.Verdict.TheVariants.{Accepted, Refused}
 
 -- document 01's numbers of the grounds
 abbrev pub ground_number : Refusal → ℕ
@@ -19,7 +18,6 @@ ground_number Unrealizable = 8
 ground_number ShortResult = 9
 ground_number ShortWork = 10
 
--- and of a verdict, 0 for none
-abbrev pub verdict_number : Verdict → ℕ
-verdict_number Accepted = 0
-verdict_number (Refused g) = ground_number g
+-- and of an answer that one of them may refuse, 0 for none
+abbrev pub verdict_number : {T : Type 0} → Result T Refusal → ℕ
+verdict_number r = number_in ground_number r

@@ -1,7 +1,7 @@
 -- How a maker's answers come about: by the sheet's refusals, by 7, 8 and 9, and by a table; and what they then mean.
 -- `work` says that the work memory is long enough, `before` and `after` are the result memory.
 -- Assumes nothing.
-use Rattle.std.specs.Prelude.{◌≡◌, refl, Bool, true, false, List, ℕ, ◌≤◌, ◌<◌, eqb, length, take, drop}
+use Rattle.std.specs.Prelude.{◌≡◌, refl, Bool, true, false, List, ℕ, ◌≤◌, ◌<◌, eqb, length, take, drop, Result, Ok, Err}
 use Rattle.std.proofs.Common.{sym, ◌∙◌, ne_eqb}
 use Rattle.std.proofs.Math.Path.{subst}
 use Rattle.std.proofs.lemmas.List.Edits.{sets}
@@ -28,7 +28,6 @@ use Rattle.solve.specs.Laws.RefusalOrder.{few_fit, only_is, orders, lost_stops}
 use Rattle.solve.specs.Promises.RefusalOrder.{InOrder}
 use Rattle.solve.specs.Promises.Making.{Written, Unwritten, Makes}
 use Rattle.solve.specs.declared.made.Made.{Made}
-use Rattle.solve.specs.declared.made.Made.TheVariants.{Table, Refused}
 
 -- ---- judging a sheet in bounds
 
@@ -37,7 +36,7 @@ module _
     (fits : state_count d ≤ max_states) (kept : is_in (dropped_of d) 0 ≡ true)
   where
     -- the result is too short
-    pub judges_short : length before < length (table d) → Judges table stateCounts d before (Refused cause.ShortResult) before
+    pub judges_short : length before < length (table d) → Judges table stateCounts d before (Err cause.ShortResult) before
     judges_short h =
         record {
           number = sym (table_due d _ _ ∙ due_short d _ _ _ fits (lost_none d kept) h);
@@ -48,7 +47,7 @@ module _
 
     -- the table is written
     pub judges_made : length (table d) ≤ length before
-        → Judges table stateCounts d before (Table (length (table d)) (stateCounts d)) (sets before 0 (table d))
+        → Judges table stateCounts d before (Ok (record { length = length (table d); states = stateCounts d })) (sets before 0 (table d))
     judges_made h =
         record {
           number = sym (table_due d _ _ ∙ due_none d _ _ _ fits (lost_none d kept) h);
@@ -62,12 +61,12 @@ module _
 module _ (table : Decoded → List ℕ) (stateCounts : Decoded → ℕ) (work : Bool) (s before : List ℕ) where
   -- a refusal by the number that is due
   pub answers_refused : (g : Refusal) → ground_number g ≡ making_number table work s (length before)
-      → Answers table stateCounts work s before (Refused g) before
+      → Answers table stateCounts work s before (Err g) before
   answers_refused g e =
       record { number = e; size = rw (refused-off g); states = rw (refused-off g); bytes = rw (refused-off g) }
 
   -- the sheet is in bounds, and judged
-  pub answers_judged : work ≡ true → sheet_number s ≡ 0 → (d : Decoded) → d ≡ sheet_of s → (r : Made) (after : List ℕ)
+  pub answers_judged : work ≡ true → sheet_number s ≡ 0 → (d : Decoded) → d ≡ sheet_of s → (r : Result Made Refusal) (after : List ℕ)
       → Judges table stateCounts d before r after → Answers table stateCounts work s before r after
   unfolding making_number
   answers_judged w none d same r after judges =
@@ -82,12 +81,12 @@ pub accepted_layout : {s : List ℕ} {d : Decoded} → Accepted s d → state_co
 accepted_layout {d = d} a = few_fit d a.few
 
 -- what was written is what the result begins with
-pub written_front : {table before after : List ℕ} {states : ℕ} {r : Made} → Written table states before r after
+pub written_front : {table before after : List ℕ} {states : ℕ} {r : Result Made Refusal} → Written table states before r after
     → take (made_length r) after ≡ table
 written_front {table} {before} w = rw (w.size, w.bytes) (take-append_seam table (drop (length table) before))
 
 -- the promise of every maker
-pub makes : (table : Decoded → List ℕ) (stateCounts : Decoded → ℕ) {work : Bool} {s before : List ℕ} {r : Made} {after : List ℕ}
+pub makes : (table : Decoded → List ℕ) (stateCounts : Decoded → ℕ) {work : Bool} {s before : List ℕ} {r : Result Made Refusal} {after : List ℕ}
     → Answers table stateCounts work s before r after → Reads s (reading s) → Only s → Makes table stateCounts work s before r after
 makes table stateCounts {work} {s} {before} {r} {after} answers reads only =
     record {

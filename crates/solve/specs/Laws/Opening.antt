@@ -1,10 +1,10 @@
 -- A call without a result answers no bytes, which fit into every result: its promise is the order of the refusals, and it never answers 9.
 -- Assumes nothing.
-use Rattle.std.specs.Prelude.{◌≡◌, Bool, List, ℕ}
+use Rattle.std.specs.Prelude.{◌≡◌, Bool, List, ℕ, Result}
 use Rattle.std.proofs.Common.{◌∙◌, arith}
 use Rattle.records.specs.Meaning.Numbers.{Bytes}
 use Rattle.sheet.specs.Meaning.Grounds.{verdict_number}
-use Rattle.sheet.specs.declared.layout.Verdict.{Verdict}
+use Rattle.sheet.specs.declared.layout.Refusal.{Refusal}
 use Rattle.product.specs.Meaning.Step.{first_tuple}
 use Rattle.solve.specs.Meaning.Allowed.{Kept, Unrealizable}
 use Rattle.solve.specs.Model.Making.{ordered_number, lost_number}
@@ -14,9 +14,9 @@ use Rattle.solve.specs.Laws.RefusalOrder.{order_nine, orders_bytes, lost_stops}
 use Rattle.solve.specs.Promises.RefusalOrder.{InOrder}
 use Rattle.solve.specs.Promises.Opening.{OpensSheet}
 
-pub opens_sheet : {work : Bool} {s : List ℕ} (v : Verdict) → Bytes s → verdict_number v ≡ opening_number work s
+pub opens_sheet : {T : Type 0} {work : Bool} {s : List ℕ} (v : Result T Refusal) → Bytes s → verdict_number v ≡ opening_number work s
     → OpensSheet work s (verdict_number v)
-opens_sheet {work} {s} v bytes e =
+opens_sheet {work = work} {s = s} v bytes e =
     record {
       model = e;
       in_bounds = order.in_bounds;

@@ -13,13 +13,13 @@ use Rattle.sheet.specs.Meaning.Grounds.{ground_number}
 use Rattle.sheet.specs.Meaning.Refusals.{sheet_number, first_number}
 use Rattle.sheet.specs.Laws.Grounds.{some_number}
 use Rattle.sheet.specs.declared.layout.Refusal.{Refusal}
-use Rattle.sheet.specs.declared.layout.Sheet.{Sheet}
 use Rattle.product.specs.Model.ProductNumbering.{state_count}
 use Rattle.rounds.specs.Model.TableRounds.{is_in}
 use Rattle.solve.specs.Model.Steps.{dropped_of}
 use Rattle.solve.specs.Model.Making.{sheet_of, many_number, lost_number, room_number, table_number, making_number, due_number, ordered_number}
 use Rattle.solve.specs.Model.SolvingSheet.{solving_number, SolvedSheet}
 use Rattle.solve.specs.Model.Opening.{opening_number}
+use Rattle.solve.specs.declared.solving.Solved.{Solved}
 use Rattle.solve.specs.Laws.Solving.{numbering_fits}
 
 -- ---- a refusal
@@ -93,14 +93,13 @@ module _ (stop size : Decoded → ℕ) (ok : Bool) (s : List ℕ) (room : ℕ) w
 
 -- ---- a solved sheet
 
-module _ {ok : Bool} {s : List ℕ} {sheet : Sheet} {n kept : ℕ} {start : Bool} {tuples cells dropped : List ℕ}
-    (solved : SolvedSheet ok s sheet n kept start tuples cells dropped) where
+module _ {ok : Bool} {s : List ℕ} {r : Solved} {tuples cells dropped : List ℕ} (solved : SolvedSheet ok s r tuples cells dropped) where
   -- its states are not too many
   pub solved_few : state_count (sheet_of s) ≤ max_states
   solved_few = subst (λ (d : Decoded). state_count d ≤ max_states) solved.same (numbering_fits solved.solution.numbering)
 
   -- whether its start is kept
-  pub solved_start : is_in (dropped_of (sheet_of s)) 0 ≡ start
+  pub solved_start : is_in (dropped_of (sheet_of s)) 0 ≡ r.start
   solved_start = ap (λ (d : Decoded). is_in (dropped_of d) 0) (sym solved.same) ∙ sym solved.solution.start_kept
 
   -- so what is due is past 7

@@ -1,26 +1,27 @@
 -- What the refusals mean of a call that solves a sheet, whatever stands in the place of 8: each is answered exactly when it is due.
 -- Assumes nothing.
 use Rattle.std.specs.Prelude.{◌≡◌, refl, ◌↔◌, Bool, true, false, cond, not, List, ℕ, zero, suc, ◌≤◌, ◌<◌}
-use Rattle.std.proofs.Common.{sym, ◌∙◌, subst, arith}
+use Rattle.std.proofs.Common.{sym, ap, ◌∙◌, subst, arith}
 use Rattle.std.proofs.Math.Decide.{dec_lt}
+use Rattle.std.proofs.lemmas.Result.{IfOk-at_ok}
 use Rattle.std.proofs.lemmas.Bool.{not-true, not-false}
 use Rattle.records.specs.Laws.Tests.{by_test, both_ways}
 use Rattle.records.specs.Meaning.Limits.{max_states}
 use Rattle.records.specs.Meaning.Numbers.{Bytes}
 use Rattle.sheet.specs.Meaning.Decoded.{Decoded, SheetOk, encode}
-use Rattle.sheet.specs.Meaning.Grounds.{verdict_number}
 use Rattle.sheet.specs.Meaning.Refusals.{sheet_number, first_number}
-use Rattle.sheet.specs.Model.Where.{decoded}
+use Rattle.sheet.specs.Laws.Grounds.{answered}
 use Rattle.sheet.specs.Model.Reader.{reading}
 use Rattle.sheet.specs.Laws.Most.{number_most}
-use Rattle.sheet.specs.Laws.Reading.{reads, only_sheet}
+use Rattle.sheet.specs.Laws.Complete.{decode_encode}
+use Rattle.sheet.specs.Laws.Reading.{reads}
 use Rattle.sheet.specs.Promises.Reader.{Reads}
 use Rattle.product.specs.Meaning.Step.{first_tuple}
 use Rattle.product.specs.Model.ProductNumbering.{state_count}
 use Rattle.rounds.specs.Model.TableRounds.{is_in}
 use Rattle.solve.specs.Meaning.Allowed.{Kept, TooMany, Unrealizable, IsSheet}
 use Rattle.solve.specs.Model.Steps.{dropped_of}
-use Rattle.solve.specs.Model.Making.{sheet_of, lost_number, room_number, due_number, ordered_number}
+use Rattle.solve.specs.Model.Making.{read_as, sheet_of, lost_number, room_number, due_number, ordered_number}
 use Rattle.solve.specs.Laws.StateGrounds.{too_many_iff, start_in, start_out}
 use Rattle.solve.specs.Laws.OrderedNumber.{due_many, due_past, due_short, due_none, ordered_cases}
 use Rattle.solve.specs.Promises.RefusalOrder.{InOrder}
@@ -31,11 +32,14 @@ few_fit d few = elim (dec_lt max_states (state_count d)) [ yes k ↦ absurd (few
 
 -- no other sheet in bounds has these bytes
 abbrev pub Only : List ℕ → Type 0
-Only s = (d : Decoded) → SheetOk d → encode d ≡ s → decoded s (reading s).sheet ≡ d
+Only s = (d : Decoded) → SheetOk d → encode d ≡ s → sheet_of s ≡ d
 
--- so the sheet of the bytes is the one that the reader finds
-pub only_is : {s : List ℕ} → Only s → (d : Decoded) → IsSheet s d → sheet_of s ≡ d
+-- as the reader finds the sheet of any bytes
+pub only_read : (s : List ℕ) → Only s
 unfolding sheet_of
+only_read s d o e = let g = decode_encode d o in rw (← e) (ap (read_as (encode d)) g.1 ∙ g.2)
+
+pub only_is : {s : List ℕ} → Only s → (d : Decoded) → IsSheet s d → sheet_of s ≡ d
 only_is only d x = only d x.in_bounds x.bytes
 
 -- how a call stops in the place of 8: by a number apart from the others, where a test says so; and what the test means
@@ -101,8 +105,8 @@ module _
       found : sheet_number s ≡ 0 → IsSheet s (sheet_of s)
       unfolding sheet_of
       found e =
-          let v : verdict_number (reading s).verdict ≡ 0 = reads.number ∙ e in
-          record { in_bounds = (reads.fits v).ok; bytes = reads.same v }
+          let h = answered (reading s) (reads.number ∙ e) in
+          record { in_bounds = rw h.1 (IfOk-at_ok _ h.1 reads.fits).ok; bytes = rw h.1 (IfOk-at_ok _ h.1 reads.same) }
 
       -- where the bytes are a sheet's, the number is what is due of it
       judged : work ≡ true → (d : Decoded) → IsSheet s d → number ≡ due_number d (halt d) (size d) room
@@ -167,7 +171,7 @@ module _
 
     -- the reader's laws hold of any bytes
     pub orders_bytes : Bytes s → InOrder stop Stopped Passes size work s room number
-    orders_bytes bytes = orders (reads s bytes) (only_sheet s)
+    orders_bytes bytes = orders (reads s bytes) (only_read s)
 
 -- a maker stops with 8 where the start is dropped
 pub lost_stops : Stops 8 Unrealizable (λ d. Kept d (first_tuple d)) lost_number

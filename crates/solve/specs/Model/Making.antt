@@ -1,21 +1,32 @@
 -- The answer that is due, by the model: 10, the sheet's number, then 7, 8 and 9; and what the result then holds.
 -- Assumes nothing.
-use Rattle.std.specs.Prelude.{◌≡◌, Bool, cond, List, ℕ, ltb, leb, eqb, length}
+use Rattle.std.specs.Prelude.{◌≡◌, Bool, cond, List, [], ℕ, ltb, leb, eqb, length, Result, Ok, Err}
 use Rattle.std.proofs.lemmas.List.Edits.{sets}
 use Rattle.records.specs.Meaning.Limits.{max_states}
 use Rattle.sheet.specs.Meaning.Decoded.{Decoded}
 use Rattle.sheet.specs.Model.Where.{decoded}
 use Rattle.sheet.specs.Model.Reader.{reading}
 use Rattle.sheet.specs.Meaning.Refusals.{sheet_number, first_number}
+use Rattle.sheet.specs.declared.layout.Sheet.{Sheet}
+use Rattle.sheet.specs.declared.layout.Refusal.{Refusal}
 use Rattle.product.specs.Model.ProductNumbering.{state_count}
 use Rattle.rounds.specs.Model.TableRounds.{is_in}
 use Rattle.solve.specs.Model.Steps.{dropped_of}
 use Rattle.solve.specs.declared.made.Made.{Made}
 use Rattle.solve.specs.Meaning.Made.{made_number, made_length, made_states}
 
+-- what stands for no sheet
+abbrev no_sheet : Decoded
+no_sheet = record { mode = 0; site = 0; outputs = 0; horizon = 0; matching = 0; literals = []; monitors = [] }
+
+-- the sheet of a layout over these bytes, where there is one
+abbrev pub read_as : List ℕ → Result Sheet Refusal → Decoded
+read_as s (Ok h) = decoded s h
+read_as s (Err cause) = no_sheet
+
 -- the sheet that bytes stand for, where they are one's
 unfoldable pub sheet_of : List ℕ → Decoded
-sheet_of s = decoded s (reading s).sheet
+sheet_of s = read_as s (reading s)
 
 -- ---- the number that is due
 
@@ -49,8 +60,8 @@ ordered_number stop size work s room =
     cond work (first_number (sheet_number s) (due_number (sheet_of s) (stop (sheet_of s)) (size (sheet_of s)) room)) 10
 
 -- for a sheet in bounds: the answer and the result by the model
-pub record Judges (table : Decoded → List ℕ) (stateCounts : Decoded → ℕ) (d : Decoded) (before : List ℕ) (r : Made) (after : List ℕ) :
-    Type 0 where
+pub record Judges (table : Decoded → List ℕ) (stateCounts : Decoded → ℕ) (d : Decoded) (before : List ℕ) (r : Result Made Refusal)
+    (after : List ℕ) : Type 0 where
   pub number : made_number r ≡ table_number d (length (table d)) (length before)
   pub size : made_length r ≡ cond (eqb (made_number r) 0) (length (table d)) 0
   pub states : made_states r ≡ cond (eqb (made_number r) 0) (stateCounts d) 0
@@ -59,8 +70,8 @@ pub record Judges (table : Decoded → List ℕ) (stateCounts : Decoded → ℕ)
 -- ---- the promise: `work` says that the work memory is long enough, `before` and `after` are the result memory
 
 -- the answer and the result by the model
-pub record Answers (table : Decoded → List ℕ) (stateCounts : Decoded → ℕ) (work : Bool) (s before : List ℕ) (r : Made) (after : List ℕ) :
-    Type 0 where
+pub record Answers (table : Decoded → List ℕ) (stateCounts : Decoded → ℕ) (work : Bool) (s before : List ℕ) (r : Result Made Refusal)
+    (after : List ℕ) : Type 0 where
   pub number : made_number r ≡ making_number table work s (length before)
   pub size : made_length r ≡ cond (eqb (made_number r) 0) (length (table (sheet_of s))) 0
   pub states : made_states r ≡ cond (eqb (made_number r) 0) (stateCounts (sheet_of s)) 0

@@ -2,29 +2,30 @@
 -- order, figures, result bytes, and when 7, 8 and a table are answered. `table d` is the table of a sheet, `stateCounts d` the
 -- number of its states.
 -- Assumes nothing.
-use Rattle.std.specs.Prelude.{◌≡◌, ◌↔◌, Bool, true, false, List, ◌++◌, ℕ, ◌≤◌, ◌<◌, length, drop}
+use Rattle.std.specs.Prelude.{◌≡◌, ◌↔◌, Bool, true, false, List, ◌++◌, ℕ, ◌≤◌, ◌<◌, length, drop, Result}
 use Rattle.sheet.specs.Meaning.Decoded.{Decoded}
 use Rattle.sheet.specs.Meaning.Refusals.{sheet_number}
 use Rattle.solve.specs.Meaning.Allowed.{TooMany, Unrealizable, IsSheet, Accepted}
+use Rattle.sheet.specs.declared.layout.Refusal.{Refusal}
 use Rattle.solve.specs.declared.made.Made.{Made}
 use Rattle.solve.specs.Meaning.Made.{made_number, made_length, made_states}
 use Rattle.solve.specs.Model.Making.{Answers}
 
 -- what was written: the table, then what the result held before, and its figures
-pub record Written (table : List ℕ) (states : ℕ) (before : List ℕ) (r : Made) (after : List ℕ) : Type 0 where
+pub record Written (table : List ℕ) (states : ℕ) (before : List ℕ) (r : Result Made Refusal) (after : List ℕ) : Type 0 where
   pub size : made_length r ≡ length table
   pub count : made_states r ≡ states
   pub bytes : after ≡ table ++ drop (length table) before
 
 -- a refusal: every figure is 0, and the result is as it was
-pub record Unwritten (before : List ℕ) (r : Made) (after : List ℕ) : Type 0 where
+pub record Unwritten (before : List ℕ) (r : Result Made Refusal) (after : List ℕ) : Type 0 where
   pub size : made_length r ≡ 0
   pub count : made_states r ≡ 0
   pub bytes : after ≡ before
 
 -- and what the answer means, over the sheet whose bytes were given
-pub record Makes (table : Decoded → List ℕ) (stateCounts : Decoded → ℕ) (work : Bool) (s before : List ℕ) (r : Made) (after : List ℕ) :
-    Type 0 where
+pub record Makes (table : Decoded → List ℕ) (stateCounts : Decoded → ℕ) (work : Bool) (s before : List ℕ) (r : Result Made Refusal)
+    (after : List ℕ) : Type 0 where
   pub answers : Answers table stateCounts work s before r after
   -- none of 1 to 6 is due exactly if the bytes are a sheet's in bounds
   pub in_bounds : (sheet_number s ≡ 0) ↔ ((d : Decoded) × IsSheet s d)

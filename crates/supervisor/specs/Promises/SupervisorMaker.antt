@@ -1,6 +1,6 @@
 -- What making a supervisor table promises: what every maker does, and demand 2 of the bytes.
 -- Assumes nothing.
-use Rattle.std.specs.Prelude.{◌≡◌, ◌↔◌, List, [], ℕ, ◌+◌, ◌*◌, ◌^◌, ◌≤◌, ◌<◌, length, get_or, take}
+use Rattle.std.specs.Prelude.{◌≡◌, ◌↔◌, List, [], ℕ, ◌+◌, ◌*◌, ◌^◌, ◌≤◌, ◌<◌, length, get_or, take, Result}
 use Rattle.records.specs.Meaning.Bits.{bit_at}
 use Rattle.records.specs.Meaning.Limits.{max_states}
 use Rattle.records.specs.Meaning.Work.{Slice, long_enough, asked_bytes}
@@ -15,6 +15,7 @@ use Rattle.supervisor.specs.Model.SupervisorOfSheet.{supervisor_table}
 use Rattle.solve.specs.Meaning.Made.{made_number, made_length, made_states}
 use Rattle.solve.specs.Promises.Making.{Makes}
 use Rattle.solve.specs.Promises.OpeningWork.{opening_work, work_most}
+use Rattle.sheet.specs.declared.layout.Refusal.{Refusal}
 use Rattle.solve.specs.declared.made.Made.{Made}
 
 -- ---- work memory
@@ -57,7 +58,7 @@ pub record Means (d : Decoded) (n : ℕ) (table : List ℕ) : Type 0 where
 
 -- ---- the promise: `before` and `after` are the result memory, `lent` the lengths of the work memory
 
-pub record MakesSupervisor (s before lent : List ℕ) (r : Made) (after : List ℕ) : Type 0 where
+pub record MakesSupervisor (s before lent : List ℕ) (r : Result Made Refusal) (after : List ℕ) : Type 0 where
   pub makes : Makes supervisor_table state_count (long_enough supervisor_work lent) s before r after
   -- of the table of every accepted sheet, also where the result is too short for it
   pub means : (d : Decoded) → Accepted s d → Means d (state_count d) (supervisor_table d)

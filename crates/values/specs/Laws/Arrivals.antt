@@ -1,11 +1,12 @@
 -- Laws of prepared values and ranks: scores, values and choices by them are those by gains, values and the output order.
 -- Assumes nothing.
-use Rattle.std.specs.Prelude.{◌≡◌, Bool, true, List, length}
+use Rattle.std.specs.Prelude.{◌≡◌, Bool, true, false, Some, None, List, length}
 use Rattle.std.proofs.Math.Path.{refl, sym, ap}
 use Rattle.std.proofs.Common.{◌∙◌, mod-lt, div-lt_iff_lt-mul, arith}
 use Rattle.std.proofs.Math.Bool.{cond}
-use Rattle.std.proofs.Math.Option
-use Rattle.std.proofs.Math.Option.{Option, none, some}
+use Rattle.std.proofs.lemmas.Option.{cond_some, none-some}
+use Rattle.std.proofs.Math.Option as Math
+use Rattle.std.proofs.Math.Option.{none, some}
 use Prim.Native.Nat.{ℕ, zero, suc, ◌+◌, ◌-◌, ◌*◌, ◌^◌, ◌≤◌, ◌<◌}
 use Rattle.std.proofs.Math.Nat.{add-mul, mul-le-mul}
 use Rattle.std.proofs.Math.ListN.{get_or}
@@ -20,7 +21,7 @@ use Rattle.game.specs.Laws.Choice.{choose_cong}
 use Rattle.values.specs.Model.Rank.{rank, rank_by}
 use Rattle.values.specs.Model.Values.{Game, SizedGame, may_give, cell_next, earns, score_of, worth, value_row, choice_of, choices}
 use Rattle.values.specs.Model.Sizes.{Valued, Ready}
-use Rattle.values.specs.Model.Arrivals.{arrival, Prepared, arrival_game, ranked_choice, ranked_choices}
+use Rattle.values.specs.Model.Arrivals.{arrival, Prepared, arrival_game, offer_of, ranked_choice, ranked_choices}
 use Rattle.values.specs.Model.Leaders.{literals_of}
 use Rattle.values.specs.Laws.Ranks.{rank-front}
 use Rattle.values.specs.Laws.Sizes.{next_low}
@@ -42,7 +43,7 @@ module _ (p : ℕ → Bool) (score f g : ℕ → ℕ) where
       rw (← leader_ranks n (λ o h. e o (omega arith)))
       (ap (λ (m : ℕ). cond (p n) (some m) (leader n p score f)) (go (leader n p score f) (leader_low p score f n)))
     where
-      go : (m : Option ℕ) → Option.get_or m 0 ≤ n - 1 → against score f n m ≡ against score g n m
+      go : (m : Math.Option ℕ) → Math.get_or m 0 ≤ n - 1 → against score f n m ≡ against score g n m
       go none h = refl
       go (some b) h = rw (e n (omega arith), e b (omega arith))
 
@@ -56,6 +57,27 @@ pub ranked_low : (g : Game) (ranks arrivals : List ℕ) (factor k i : ℕ) → 1
 unfolding ranked_choice choose
 ranked_low g ranks arrivals factor k i h =
     omega (arith, leader_low (may_give g k i) (score_of g arrivals factor k i) (λ o. get_or ranks o 0) g.outs)
+
+-- ---- offers
+
+offered_if : (may : Bool) (x y : ℕ) → Some y ≡ cond may (Some x) None → (may ≡ true) × (y ≡ x)
+offered_if may x y e = let h = cond_some may x y (sym e) in (h.0, sym h.1)
+
+refused_if : (may : Bool) (x : ℕ) → None ≡ cond may (Some x) None → may ≡ false
+refused_if true x e = absurd (none-some x e)
+refused_if false x e = refl
+
+module _ (g : Game) (arrivals : List ℕ) (factor k i o : ℕ) where
+  -- an offered score is that of an output that may be given
+  pub offered : {score : ℕ} → Some score ≡ offer_of g arrivals factor k i o
+      → (may_give g k i o ≡ true) × (score ≡ score_of g arrivals factor k i o)
+  unfolding offer_of
+  offered e = offered_if _ _ _ e
+
+  -- and one that may not be given offers none
+  pub refused : None ≡ offer_of g arrivals factor k i o → may_give g k i o ≡ false
+  unfolding offer_of
+  refused e = refused_if _ _ e
 
 -- ---- arrivals
 

@@ -1,13 +1,12 @@
 -- Values prepared for a round: what arriving in a state earns along every word to come, and is worth, as one number a state.
 -- They are the values of a table whose states gain nothing; ranks of outputs are prepared too.
 -- Assumes nothing.
-use Rattle.std.specs.Prelude.{◌≡◌, cond, List, [], ℕ, ◌+◌, ◌*◌, ◌/◌, ◌%◌, ◌^◌, ◌≤◌, ◌<◌, length, get_or}
+use Rattle.std.specs.Prelude.{◌≡◌, cond, Option, Some, None, List, [], ℕ, ◌+◌, ◌*◌, ◌/◌, ◌%◌, ◌^◌, ◌≤◌, ◌<◌, length, get_or}
 use Rattle.records.specs.Meaning.Limits.{max_horizon}
 use Rattle.records.specs.Meaning.Lists.{tab}
 use Rattle.game.specs.Model.Choice.{choose}
 use Rattle.values.specs.Model.Values.{Game, may_give, score_of}
 use Rattle.values.specs.Model.Sizes.{game_of}
-use Rattle.values.specs.declared.values.Offer.{Offer}
 
 -- the number of state k
 unfoldable pub arrival : List ℕ → List ℕ → ℕ → ℕ → ℕ
@@ -39,10 +38,9 @@ pub record Scored (bonuses arrivals : List ℕ) (factor to letter : ℕ) : Type 
   pub most : get_or arrivals to 0 ≤ 2 ^ 40
   pub factor_most : factor ≤ 2 ^ max_horizon
 
--- what output o offers in state k at input i: whether it is allowed, and then its score
-unfoldable pub offer_of : Game → List ℕ → ℕ → ℕ → ℕ → ℕ → Offer
-offer_of g arrivals factor k i o =
-    record { allowed = may_give g k i o; score = cond (may_give g k i o) (score_of g arrivals factor k i o) 0 }
+-- what output o offers in state k at input i: its score, none if it is not allowed
+unfoldable pub offer_of : Game → List ℕ → ℕ → ℕ → ℕ → ℕ → Option ℕ
+offer_of g arrivals factor k i o = cond (may_give g k i o) (Some (score_of g arrivals factor k i o)) None
 
 -- the choice of state k at input i by prepared ranks
 unfoldable pub ranked_choice : Game → List ℕ → List ℕ → ℕ → ℕ → ℕ → ℕ

@@ -14,19 +14,19 @@ idle c = said c.is_live.ensures c.if-is_live.false
 
 pub returns-then-is_live : goal.returns-then-is_live
 unfolding load_on
-returns-then-is_live c =
-    load_promise _ _ _ (simp (c.of.ensures, said c.is_live.ensures c.if-is_live.true))
+returns-then-is_live c = load_promise _ _ _ (simp (c.refused.ensures, said c.is_live.ensures c.if-is_live.true))
+
+pub returns-then-not-is_loadable : goal.returns-then-not-is_loadable
+unfolding load_on
+returns-then-not-is_loadable c =
+    load_promise _ _ _
+    (simp (c.refused-then-not-is_loadable.ensures, idle (goal.at.returns-then-not-is_loadable c).Else-is_live, said c.is_loadable.ensures c.if-not-is_loadable.true))
 
 pub board_of-requires : goal.board_of-requires
-board_of-requires c = (loadable-head _ (said c.is_loadable.ensures c.if-is_loadable.true)).long
-
-pub returns-then-is_loadable : goal.returns-then-is_loadable
-unfolding load_on
-returns-then-is_loadable c =
-    load_promise _ _ _
-    (simp (c.of-then-is_loadable.ensures, idle (goal.at.returns-then-is_loadable c).Else-is_live, said c.is_loadable.ensures c.if-is_loadable.true, c.board_of.ensures))
+board_of-requires c = (loadable-head _ (said c.is_loadable.ensures c.if-not-is_loadable.false)).long
 
 pub returns : goal.returns
 unfolding load_on
 returns c =
-    load_promise _ _ _ (simp (c.of-2.ensures, idle (goal.at.returns c).Else-is_live, said c.is_loadable.ensures c.if-is_loadable.false))
+    load_promise _ _ _
+    (simp (idle (goal.at.returns c).Else-is_live, said c.is_loadable.ensures c.if-not-is_loadable.false, c.board_of.ensures))

@@ -31,11 +31,11 @@ stranger c = search (cases, ← c.pow2.ensures)
 pub returns-then-not-is_live : goal.returns-then-not-is_live
 unfolding step_on
 returns-then-not-is_live c =
-    step_promise _ _ _ _ (simp (c.of.ensures, said c.is_live.ensures c.if-not-is_live.true))
+    step_promise _ _ _ _ (simp (c.refused.ensures, said c.is_live.ensures c.if-not-is_live.true))
 
 pub returns-then-self-ge-STEP_LIMIT : goal.returns-then-self-ge-STEP_LIMIT
 unfolding step_on
-returns-then-self-ge-STEP_LIMIT c = step_promise _ _ _ _ (simp (c.of-then-self-ge-STEP_LIMIT.ensures, alive (goal.at.returns-then-self-ge-STEP_LIMIT c).Else-not-is_live, spent (goal.at.returns-then-self-ge-STEP_LIMIT c).Then-self-ge-STEP_LIMIT))
+returns-then-self-ge-STEP_LIMIT c = step_promise _ _ _ _ (simp (c.refused-then-self-ge-STEP_LIMIT.ensures, alive (goal.at.returns-then-self-ge-STEP_LIMIT c).Else-not-is_live, spent (goal.at.returns-then-self-ge-STEP_LIMIT c).Then-self-ge-STEP_LIMIT))
 
 pub pow2-requires : goal.pow2-requires
 pow2-requires c =
@@ -45,10 +45,13 @@ pow2-requires c =
 pub returns-then-pow2-input : goal.returns-then-pow2-input
 unfolding step_on
 returns-then-pow2-input c =
-    step_promise _ _ _ _ (simp (c.of-then-pow2-input.ensures, alive (goal.at.returns-then-pow2-input c).Else-not-is_live, room (goal.at.returns-then-pow2-input c).Else-self-ge-STEP_LIMIT, stranger (goal.at.returns-then-pow2-input c).Then-pow2-input))
+    step_promise _ _ _ _ (simp (c.refused-then-pow2-input.ensures, alive (goal.at.returns-then-pow2-input c).Else-not-is_live, room (goal.at.returns-then-pow2-input c).Else-self-ge-STEP_LIMIT, stranger (goal.at.returns-then-pow2-input c).Then-pow2-input))
+
+pub invariant_of-running : goal.invariant_of-running
+invariant_of-running c = record { live = alive (goal.at.invariant_of-running c).Else-not-is_live }
 
 pub look_up-requires : goal.look_up-requires
-look_up-requires c = (alive (goal.at.look_up-requires c).Else-not-is_live, ltb-true _ _ (letter c))
+look_up-requires c = ltb-true _ _ (letter (goal.at.look_up-requires c).Else-pow2-input)
 
 pub returns : goal.returns
 unfolding step_on

@@ -4,12 +4,10 @@ use Rattle.board.specs.Meaning.Board.{unload_on}
 use Rattle.board.proofs.Promises.{unload_promise}
 use Rattle.board.proofs.Board.unload.Goals as goal
 
-pub returns-then-is_live : goal.returns-then-is_live
+pub returns-then-not-is_live : goal.returns-then-not-is_live
 unfolding unload_on
-returns-then-is_live c =
-    unload_promise _ _ (simp (c.of.ensures, said c.is_live.ensures c.if-is_live.true) (search c))
+returns-then-not-is_live c = unload_promise _ _ (simp (c.refused.ensures, said c.is_live.ensures c.if-not-is_live.true))
 
 pub returns : goal.returns
 unfolding unload_on
-returns c =
-    unload_promise _ _ (simp (c.of-2.ensures, said c.is_live.ensures c.if-is_live.false))
+returns c = unload_promise _ _ (simp (said c.is_live.ensures c.if-not-is_live.false, c.empty.ensures.whole))

@@ -1,11 +1,8 @@
 -- `card::Card::of`: the entries before s are filled in. Assumes nothing.
-use Rattle.std.proofs.Common.{◌-◌, ◌≡◌, ◌≤◌}
+use Rattle.std.proofs.Common.{◌≡◌}
 use Rattle.records.specs.Model.Lists.{put}
 use Rattle.card.specs.Model.Card.{lost_entries, card_entry_at}
 use Rattle.card.proofs.Card.of.Given as goal
 
 abbrev pub invariant-loop-s : goal.invariant-loop-s
-invariant-loop-s l = (l.s ≤ l.n) × (l.card.entries ≡ put lost_entries l.s (card_entry_at l.dropped l.bests l.leasts l.words))
-
-abbrev pub decreases-loop-s : goal.decreases-loop-s
-decreases-loop-s l = l.n - l.s
+invariant-loop-s l = l.card.entries ≡ put lost_entries l.s (card_entry_at l.dropped l.bests l.leasts l.words)

@@ -11,7 +11,7 @@ use Rattle.rounds.specs.Laws.CellPlaces.{cell_in_row}
 use Rattle.guard_table.specs.Meaning.RowKind.{states_most}
 use Rattle.guard_table.specs.Laws.GuardTable.{length_entry, entry_ends}
 use Rattle.values.specs.Model.Values.{cell_next}
-use Rattle.values.specs.Model.GuardNumbering.{steps_of}
+use Rattle.values.specs.Model.Tables.{steps_in}
 use Rattle.guard_rows.specs.Model.Entered.{output_by, next_by, numbered}
 use Rattle.guard_rows.proofs.Stores.{entry_stored, row-stored}
 use Rattle.guard_rows.proofs.table.put_row.Goals.{After-next_of-to, At-loop-i, In-loop-i}
@@ -20,16 +20,16 @@ use Rattle.guard_rows.proofs.table.put_row.Goals as goal
 -- the output at input i is the lowest digit of what is left
 output : (c : In-loop-i) → c.loop-i.rest % max_outs ≡ output_by c.args.row c.loop-i.i
 output c =
-    ap (λ (x : ℕ). x % max_outs) c.loop-i.invariant.1 ∙ digit_rest max_outs c.args.row c.loop-i.i
+    ap (λ (x : ℕ). x % max_outs) c.loop-i.invariant.0 ∙ digit_rest max_outs c.args.row c.loop-i.i
 
 -- and the state after it has a number
-next : (c : After-next_of-to) → c.next_of-to.result ≡ next_by (steps_of c.args.cells.now c.args.ins c.args.outs) c.args.row c.args.k c.loop-i.i
+next : (c : After-next_of-to) → c.next_of-to.result ≡ next_by (steps_in c.args.steps.now) c.args.row c.args.k c.loop-i.i
 unfolding cell_next
 next c =
-    let output : c.loop-i.rest % max_outs ≡ output_by c.args.row c.loop-i.i = ap (λ (x : ℕ). x % max_outs) c.loop-i.invariant.1 ∙ digit_rest max_outs c.args.row c.loop-i.i in
+    let output : c.loop-i.rest % max_outs ≡ output_by c.args.row c.loop-i.i = ap (λ (x : ℕ). x % max_outs) c.loop-i.invariant.0 ∙ digit_rest max_outs c.args.row c.loop-i.i in
     let a = c.args in
     c.next_of-to.ensures
-    ∙ ap (λ (o : ℕ). get_or a.cells.now (cell_at a.ins a.outs a.k c.loop-i.i o) 0) (output)
+    ∙ ap (λ (o : ℕ). get_or a.steps.now.cells.now (cell_at a.steps.now.ins a.steps.now.outs a.k c.loop-i.i o) 0) (output)
 
 some : (c : After-next_of-to) → let numbers = c.args.numbers.now in
     (c.next_of-to.result < length numbers)
@@ -42,19 +42,13 @@ some c = let i = c.loop-i.i in
 
 -- the input is one of those that there are
 low : (c : In-loop-i) → c.loop-i.i < 2 ^ c.args.layout.inputs
-low c = omega (arith, c.loop-i-test.true, c.requires.ins_value.0)
+low c = omega (arith, c.loop-i-test.true, c.requires.inside.0)
 
 same : (c : At-loop-i) → length c.loop-i.res ≡ length c.args.res.now
-same c = same_blocks c.loop-i.invariant.2 ∙ c.put_row_header.auto.res
-
-pub put_row_header-requires : goal.put_row_header-requires
-put_row_header-requires c = c.requires.ins_value.1
+same c = same_blocks c.loop-i.invariant.1 ∙ c.put_row_header.auto.res
 
 pub loop-i-init : goal.loop-i-init
-loop-i-init c = (omega arith, rest_none max_outs _, no_block)
-
-pub overflow_cast-output : goal.overflow_cast-output
-overflow_cast-output c = record { fits = omega arith }
+loop-i-init c = (rest_none max_outs _, no_block)
 
 pub next_of-to-requires : goal.next_of-to-requires
 next_of-to-requires c =
@@ -63,7 +57,7 @@ next_of-to-requires c =
     rw (output c) (
     record {
       in_row = record { input = h; output = o; fits = omega (arith, c.requires.entered.steps) };
-      o_in_bounds = omega (arith, c.requires.entered.steps, cell_in_row c.args.k h o);
+      cell_in_table = omega (arith, c.requires.entered.steps, cell_in_row c.args.k h o);
     }
     )
 
@@ -78,13 +72,13 @@ overflow_sub-next c = omega (arith, (some (goal.at.overflow_sub-next c).After-ne
 
 pub entry_at-at-requires : goal.entry_at-at-requires
 entry_at-at-requires c =
-    let row = c.requires.ins_value.1 in
+    let row = c.requires.inside.1 in
     let few : 2 ^ c.args.layout.inputs ≤ 16 = pow_mono {j = max_inputs} row.inputs_most in
-    (row.inputs_most, (row.place_most, omega (arith, low (goal.at.entry_at-at-requires c).In-loop-i)))
+    (row.place_most, omega (arith, low (goal.at.entry_at-at-requires c).In-loop-i))
 
 pub put_entry-requires : goal.put_entry-requires
 put_entry-requires c =
-    let ends = entry_ends c.args.layout.kind c.requires.ins_value.1 (low (goal.at.put_entry-requires c).In-loop-i) in (
+    let ends = entry_ends c.args.layout.kind c.requires.inside.1 (low (goal.at.put_entry-requires c).In-loop-i) in (
       omega (arith, ends, c.entry_at-at.ensures, same (goal.at.put_entry-requires c).At-loop-i),
       omega (arith, (some (goal.at.put_entry-requires c).After-next_of-to).1, (some (goal.at.put_entry-requires c).After-next_of-to).2),
     )
@@ -94,18 +88,14 @@ unfolding numbered
 loop-i-preserved c =
     let l = c.loop-i in
     let a = c.args in (
-      omega arith,
-      ap (λ (x : ℕ). x / max_outs) l.invariant.1 ∙ rest_more max_outs a.row l.i,
-      more_blocks l.invariant.2 (λ q. length_entry a.layout.kind (output_by a.row q) (numbered (steps_of c.args.cells.now c.args.ins c.args.outs) a.row a.numbers.now a.k q))
+      ap (λ (x : ℕ). x / max_outs) l.invariant.0 ∙ rest_more max_outs a.row l.i,
+      more_blocks l.invariant.1 (λ q. length_entry a.layout.kind (output_by a.row q) (numbered (steps_in c.args.steps.now) a.row a.numbers.now a.k q))
           (entry_stored l.res a.layout.kind a.layout.inputs a.place l.i c.entry_at-at.ensures (output (goal.at.loop-i-preserved c).In-loop-i)
           (ap (λ (x : ℕ). get_or a.numbers.now x 0 - 1) (next (goal.at.loop-i-preserved c).After-next_of-to)) c.put_entry.ensures),
     )
 
-pub shape_of-res : goal.shape_of-res
-shape_of-res c = same (goal.at.shape_of-res c).At-loop-i
-
 pub returns : goal.returns
 returns c =
     let a = c.args in
-    row-stored a.res.now a.layout.kind a.layout.inputs a.place (output_by a.row) (numbered (steps_of c.args.cells.now c.args.ins c.args.outs) a.row a.numbers.now a.k)
-    c.requires.ins_value.0 c.put_row_header.ensures (all_blocks c.loop-i.invariant.2 (omega arith))
+    row-stored a.res.now a.layout.kind a.layout.inputs a.place (output_by a.row) (numbered (steps_in c.args.steps.now) a.row a.numbers.now a.k)
+    c.requires.inside.0 c.put_row_header.ensures (all_blocks c.loop-i.invariant.1 (omega (arith, c.loop-i-test.false)))

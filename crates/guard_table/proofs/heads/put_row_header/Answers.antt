@@ -11,11 +11,8 @@ header-stored : (before : List ℕ) {at a size s kind k : ℕ} → at ≡ a → 
 header-stored before e f g h =
     h ∙ ap₂ (λ (n : ℕ) (l : List ℕ). sets before n l) e (ap₂ header f g)
 
-pub row_size-size-requires : goal.row_size-size-requires
-row_size-size-requires c = c.requires.inputs_most
-
 pub row_at-requires : goal.row_at-requires
-row_at-requires c = let s = c in (s.requires.inputs_most, s.requires.place_most)
+row_at-requires c = c.requires.place_most
 
 pub overflow_cast-size : goal.overflow_cast-size
 overflow_cast-size c = omega (arith, c.row_size-size.ensures.1)

@@ -8,29 +8,24 @@ use Rattle.notebook.proofs.Encoding.{sheet_encoded, length_encoded}
 use Rattle.notebook.proofs.counters.put_sheet.Goals as goal
 
 pub loop-k-init : goal.loop-k-init
-loop-k-init c = (omega arith, none)
-
-pub sheet_byte-requires : goal.sheet_byte-requires
-sheet_byte-requires c = (omega arith, (omega arith, omega arith))
+loop-k-init c = none
 
 pub bounds-sheet-k : goal.bounds-sheet-k
-bounds-sheet-k c = omega (arith, same c.loop-k.invariant.1)
+bounds-sheet-k c = omega (arith, same c.loop-k.invariant)
 
 pub loop-k-preserved : goal.loop-k-preserved
-loop-k-preserved c = (
-  omega arith,
-  subst (λ (j : ℕ). Elements c.args.sheet.now 0 (sheet_byte c.args.n c.args.m)
-      (c.loop-k.k + 1) (set c.loop-k.sheet j c.sheet_byte.result))
-      (zero-add c.loop-k.k) (more c.loop-k.invariant.1 c.sheet_byte.ensures),
-)
+loop-k-preserved c =
+    subst (λ (j : ℕ). Elements c.args.sheet.now 0 (sheet_byte c.args.pair.n c.args.pair.m)
+    (c.loop-k.k + 1) (set c.loop-k.sheet j c.sheet_byte.result))
+    (zero-add c.loop-k.k) (more c.loop-k.invariant c.sheet_byte.ensures)
 
 pub shape_of-sheet : goal.shape_of-sheet
-shape_of-sheet c = same c.loop-k.invariant.1
+shape_of-sheet c = same c.loop-k.invariant
 
 pub returns : goal.returns
 unfolding sheet_bytes
 returns c =
-    let few = c.requires in (
-      rw (← sheet_encoded c.args.n c.args.m few.0 few.1.0) (all c.loop-k.invariant.1 (omega arith)),
-      sym (length_encoded c.args.n c.args.m few.0 few.1.0),
+    let few = c.args.pair.few in (
+      rw (← sheet_encoded c.args.pair.n c.args.pair.m few.0 few.1) (all c.loop-k.invariant (omega (arith, c.loop-k.auto.k-end))),
+      sym (length_encoded c.args.pair.n c.args.pair.m few.0 few.1),
     )

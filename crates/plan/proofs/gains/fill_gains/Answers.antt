@@ -1,9 +1,8 @@
 -- `plan::gains::fill_gains`: the gains of the tuples before k are stored. Assumes nothing.
-use Rattle.std.proofs.Common.{List, ap, ap₂, arith, subst, sym, ℕ, ◌∙◌, ◌≡◌}
+use Rattle.std.proofs.Common.{List, ap, ap₂, arith, sym, ℕ, ◌∙◌, ◌≡◌}
 use lib.ListN.{set}
-use Rattle.records.specs.Laws.Lists.{put_none, put_more, length-put}
-use Rattle.sheet.specs.Model.Where.{decoded}
-use Rattle.product.specs.Model.Range.{InRange}
+use Rattle.records.specs.Laws.Lists.{put_none, put_more}
+use Rattle.sheet.specs.Model.Meant.{meant}
 use Rattle.product.specs.Meaning.Step.{soft_reward, weight_of}
 use Rattle.product.specs.Model.States.{tuple_at}
 use Rattle.product.specs.Laws.Rewards.{soft_most}
@@ -12,46 +11,21 @@ use Rattle.plan.proofs.gains.fill_gains.Invariants.{gain}
 use Rattle.plan.proofs.gains.fill_gains.Goals as goal
 
 -- what the call says
-earned : (c : After-soft_reward) → let a = c.args in
-    c.soft_reward.result ≡ gain a.s.now a.sheet a.tuples.now c.loop-k.k
-earned c = let a = c.args in
-    c.soft_reward.ensures
-    ∙ ap (λ (t : List ℕ). soft_reward (weight_of (decoded a.s.now a.sheet)) (decoded a.s.now a.sheet) t)
-    c.load_tuple-tuple.ensures
+earned : (c : After-soft_reward) → let a = c.args in c.soft_reward.result ≡ gain a.sheet.now a.tuples.now c.loop-k.k
+earned c =
+    let d = meant c.args.sheet.now in c.soft_reward.ensures ∙ ap (λ (t : List ℕ). soft_reward (weight_of d) d t) c.load_tuple.ensures
 
 pub loop-k-init : goal.loop-k-init
-loop-k-init c = (omega arith, sym (put_none _ _))
-
-pub soft_reward-requires : goal.soft_reward-requires
-soft_reward-requires c =
-    record {
-      fits = c.requires.fits;
-      in_range = subst (InRange (decoded c.args.s.now c.args.sheet)) (sym c.load_tuple-tuple.ensures)
-          (c.requires.by_index _ c.loop-k-test.true);
-    }
+loop-k-init c = sym (put_none _ _)
 
 pub overflow_cast-gains : goal.overflow_cast-gains
 overflow_cast-gains c =
-    omega (
-      arith,
-      earned c,
-      soft_most (decoded c.args.s.now c.args.sheet) c.requires.fits.ok
-          (tuple_at c.args.tuples.now c.loop-k.k),
-    )
-
-pub bounds-gains-k : goal.bounds-gains-k
-bounds-gains-k c = rw (c.loop-k.invariant.1, length-put) (omega arith)
+    let a = c.args in
+    let most = soft_most (meant a.sheet.now) a.sheet.now.fits.ok (tuple_at a.tuples.now c.loop-k.k) in
+    record { fits = omega (arith, earned (goal.at.overflow_cast-gains c).After-soft_reward, most) }
 
 pub loop-k-preserved : goal.loop-k-preserved
 loop-k-preserved c =
-    let a = c.args in (
-      omega arith,
-      ap₂ (λ (l : List ℕ) (x : ℕ). set l c.loop-k.k x) c.loop-k.invariant.1 (earned c)
-          ∙ put_more _ _ (gain a.s.now a.sheet a.tuples.now),
-    )
-
-pub shape_of-gains : goal.shape_of-gains
-shape_of-gains c = rw (c.loop-k.invariant.1, length-put)
-
-pub returns : goal.returns
-returns c = let e : c.loop-k.k ≡ c.args.n = omega arith in c.loop-k.invariant.1 ∙ rw e
+    let a = c.args in
+    ap₂ (λ (l : List ℕ) (x : ℕ). set l c.loop-k.k x) c.loop-k.invariant (earned (goal.at.loop-k-preserved c).After-soft_reward)
+    ∙ put_more _ _ (gain a.sheet.now a.tuples.now)

@@ -28,9 +28,9 @@ returns-then-text-listing_length c =
     let at = goal.at.returns-then-text-listing_length c in
     writes_short (is-table at.Else-not-is_loadable) (omega (arith, c.listing_length.ensures))
 
-pub put_listing-size-requires : goal.put_listing-size-requires
-put_listing-size-requires c =
-    let at = goal.at.put_listing-size-requires c in
+pub put_listing-requires : goal.put_listing-requires
+put_listing-requires c =
+    let at = goal.at.put_listing-requires c in
     record {
       head_length_in_bounds = loadable_filled c.args.table.now (is-table at.Else-not-is_loadable);
       table_in_bounds = room at.Else-text-listing_length;
@@ -39,4 +39,4 @@ put_listing-size-requires c =
 pub returns : goal.returns
 returns c =
     let at = goal.at.returns c in
-    writes_text (is-table at.Else-not-is_loadable) c.put_listing-size.ensures (room at.Else-text-listing_length)
+    writes_text (is-table at.Else-not-is_loadable) c.put_listing.ensures (room at.Else-text-listing_length)

@@ -5,14 +5,14 @@ use Rattle.report.specs.Laws.ListingAnswers.{outcome_refused, outcome_listed}
 use Rattle.report.proofs.NoTable.{outcome_no_table}
 use Rattle.report.proofs.Report.outcome.Goals as goal
 
-pub returns-then-res-length : goal.returns-then-res-length
-returns-then-res-length c = outcome_no_table _ _ c.in-Table.is (omega arith)
+pub returns-then-res-table : goal.returns-then-res-table
+returns-then-res-table c = outcome_no_table _ _ c.in-Ok.is (omega arith)
 
 pub slice_bounds-list-end : goal.slice_bounds-list-end
 slice_bounds-list-end c = sym (length-take-le _ _ (omega arith))
 
-pub returns-else-res-length : goal.returns-else-res-length
-returns-else-res-length c = outcome_listed _ _ c.in-Table.is (omega arith) c.list.ensures
+pub returns-else-res-table : goal.returns-else-res-table
+returns-else-res-table c = outcome_listed _ _ c.in-Ok.is (omega arith) c.list.ensures
 
-pub returns-in-Refused : goal.returns-in-Refused
-returns-in-Refused c = outcome_refused _ _ c.in-Refused.is c.number.ensures c.refused.ensures
+pub returns-in-Err : goal.returns-in-Err
+returns-in-Err c = outcome_refused _ _ c.in-Err.is c.number.ensures c.refused.ensures

@@ -1,53 +1,45 @@
 -- `sheet::reader::read_records`: a walk over records. The invariant: from here the walk gives what it gives from the head on.
 -- Assumes nothing.
-use Rattle.std.proofs.Common.{arith, ◌∙◌, ◌≡◌}
-use Rattle.records.specs.Meaning.Records.{read_at}
+use Rattle.std.proofs.Common.{arith, ◌≡◌, ◌∙◌}
+use Rattle.std.specs.Prelude.{Some, Ok}
+use Rattle.std.proofs.lemmas.Result.{err_from_is_err_and}
 use Rattle.records.specs.Laws.Cursor.{lies}
-use Rattle.records.specs.declared.cursor.Found.TheVariants as found
-use Rattle.records.specs.Laws.Tests.{said}
 use Rattle.sheet.proofs.Walk.{begin, ended, cut, stopped, more}
-use Rattle.sheet.proofs.reader.read_records.Goals.{In-Record}
+use Rattle.sheet.proofs.reader.read_records.Goals.{In-Some}
 use Rattle.sheet.proofs.reader.read_records.Goals as goal
 
 -- what the cursor found
-here : (c : In-Record)
-    → read_at c.args.s.now c.loop-kind.at
-    ≡ found.Record c.in-Record.kind c.in-Record.start c.in-Record.size c.in-Record.next
-here c = said c.read.ensures.whole c.in-Record.is
+here : (c : In-Some) → c.read.result ≡ Ok (Some c.in-Some.found)
+here c = c.in_ok-found.was ∙ rw c.in-Some.is
 
-pub loop-kind-init : goal.loop-kind-init
-loop-kind-init c = begin _ _ _ c.requires
+pub loop-found-init : goal.loop-found-init
+loop-found-init c = begin _ _ _ c.requires
 
-pub returns-in-End : goal.returns-in-End
-returns-in-End c =
-    let e = c in
-    let r = e in
-    c.accepted.ensures ∙ ended r.loop-kind.invariant (said r.read.ensures.whole e.in-End.is)
+pub returns-in_err-found : goal.returns-in_err-found
+returns-in_err-found c =
+    let p = err_from_is_err_and c.from_residual.result c.from_residual.ensures.1 in
+    rw (p.1, p.2) (cut c.loop-found.invariant c.read.ensures c.in_err-found.was)
 
-pub returns-in-Truncated : goal.returns-in-Truncated
-returns-in-Truncated c =
-    let e = c in
-    let r = e in
-    c.refused.ensures ∙ cut r.loop-kind.invariant (said r.read.ensures.whole e.in-Truncated.is)
+pub invariant_of-body : goal.invariant_of-body
+invariant_of-body c =
+    let l = lies c.read.ensures (here (goal.at.invariant_of-body c).In-Some) in
+    record { inside = omega (arith, l.is_next, l.inside) }
 
-pub take_record-taken-requires : goal.take_record-taken-requires
-take_record-taken-requires c =
-    let t = c in
-    let l = lies _ _ (here (goal.at.take_record-taken-requires t).In-Record) in
-    omega (arith, t.loop-kind.invariant.lines_most)
+pub returns-in_err-sheet : goal.returns-in_err-sheet
+returns-in_err-sheet c =
+    let p = err_from_is_err_and c.from_residual-in_err-sheet.result c.from_residual-in_err-sheet.ensures.1 in
+    rw (p.1, p.2)
+    (stopped c.loop-found.invariant c.read.ensures (here (goal.at.returns-in_err-sheet c).In-Some) c.take_record.ensures
+    c.in_err-sheet.was)
 
-pub loop-kind-smaller : goal.loop-kind-smaller
-loop-kind-smaller c =
-    let l = lies _ _ (here (goal.at.loop-kind-smaller c).In-Record) in
-    omega arith
+pub loop-found-smaller : goal.loop-found-smaller
+loop-found-smaller c =
+    let l = lies c.read.ensures (here (goal.at.loop-found-smaller c).In-Some) in
+    omega (arith, l.is_start, l.is_next, l.inside)
 
-pub loop-kind-preserved : goal.loop-kind-preserved
-loop-kind-preserved c =
-    let t = c in
-    more t.loop-kind.invariant (here (goal.at.loop-kind-preserved t).In-Record) t.take_record-taken.ensures c.in-Accepted.is
+pub loop-found-preserved : goal.loop-found-preserved
+loop-found-preserved c =
+    more c.loop-found.invariant c.read.ensures (here (goal.at.loop-found-preserved c).In-Some) c.take_record.ensures c.in_ok-sheet.was
 
-pub returns-in-Refused : goal.returns-in-Refused
-returns-in-Refused c =
-    let v = c in
-    let t = v in
-    c.refused-in-Refused.ensures ∙ stopped t.loop-kind.invariant (here (goal.at.returns-in-Refused t).In-Record) t.take_record-taken.ensures v.in-Refused.is
+pub returns : goal.returns
+returns c = ended c.loop-found.invariant c.read.ensures (search c)

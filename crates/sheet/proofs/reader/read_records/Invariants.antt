@@ -5,8 +5,8 @@ use lib.ListN.{length}
 use Rattle.sheet.proofs.Walk.{Walked}
 use Rattle.sheet.proofs.reader.read_records.Given as goal
 
-abbrev pub invariant-loop-kind : goal.invariant-loop-kind
-invariant-loop-kind l = Walked l.s l.initial.sheet l.initial.at l.sheet l.at
+abbrev pub invariant-loop-found : goal.invariant-loop-found
+invariant-loop-found l = Walked l.s l.initial.sheet l.initial.cursor.at l.sheet l.cursor.at
 
-abbrev pub decreases-loop-kind : goal.decreases-loop-kind
-decreases-loop-kind l = length l.s - l.at
+abbrev pub decreases-loop-found : goal.decreases-loop-found
+decreases-loop-found l = length l.s - l.cursor.at

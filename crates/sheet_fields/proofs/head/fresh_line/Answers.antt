@@ -1,22 +1,20 @@
--- `sheet_fields::head::fresh_line`: a search with an early return. The invariant: no line before i is that of the literal at j.
--- Assumes nothing.
-use Rattle.std.proofs.Common.{arith, sym}
-use borrow.Author.Count.{below_none, below_more}
+-- `sheet_fields::head::fresh_line`: what `all` answers of the literals before j. Assumes nothing.
+use Rattle.std.proofs.Common.{arith, rules, eqb, not, true, false, ℕ, Bool, ◌%◌, ◌+◌, ◌≡◌}
+use Rattle.std.proofs.lemmas.Iterator.{cases_from_all, YieldsList-from_slice}
+use lib.ListN.{get_or}
 use Rattle.records.specs.Laws.Tests.{cases}
-use Rattle.records.specs.Laws.Bounded.{all_of, all_fails}
 use Rattle.sheet_fields.specs.Meaning.Head.{fresh_line}
+use Rattle.sheet_fields.proofs.Part.{told}
+use Rattle.sheet_fields.proofs.head.fresh_line.Goals.{After-all}
 use Rattle.sheet_fields.proofs.head.fresh_line.Goals as goal
 
-pub loop-i-init : goal.loop-i-init
-loop-i-init c = (omega arith, below_none _)
-
-pub returns-then-s-at : goal.returns-then-s-at
-unfolding fresh_line
-returns-then-s-at c = sym (all_fails _ _ c.loop-i.i (omega arith) (search cases))
-
-pub loop-i-preserved : goal.loop-i-preserved
-loop-i-preserved c = (omega arith, below_more _ _ c.loop-i.invariant.1 (search cases))
+-- whether a literal names another line than the one at j
+abbrev other : After-all → ℕ → Bool
+other c x = let a = c.args in not (eqb (x % 8) (get_or a.s.now (a.at + a.j) 0 % 8))
 
 pub returns : goal.returns
 unfolding fresh_line
-returns c = sym (all_of _ _ (λ k l. c.loop-i.invariant.1 k (omega arith)))
+returns c =
+    told _ _ _ (omega arith) (other c) _
+    (cases_from_all _ _ _ (λ x. other c x ≡ true) (λ x. other c x ≡ false) c.all.ensures.ran
+    (YieldsList-from_slice _ c.iter.ensures.rest) (λ x q k. search (rules, cases)) (λ x q k. search (rules, cases)))

@@ -1,21 +1,16 @@
--- `sheet_fields::head::head_ok`: the tests in the definition's order. Assumes nothing.
-use Rattle.std.proofs.Common.{arith}
-use Rattle.records.specs.Laws.Tests.{cases, said}
-use Rattle.sheet_fields.specs.Meaning.Head.{head_ok}
+-- `sheet_fields::head::head_ok`: a head whose numbers are in order has room for its literals. Assumes nothing.
+use Rattle.std.proofs.Common.{arith, ◌∙◌}
+use borrow.Author.Tests.{lt-leb}
+use Rattle.records.specs.Laws.Tests.{both_ways, said}
 use Rattle.sheet_fields.specs.Laws.FieldFacts.{numbers_facts}
+use Rattle.sheet_fields.proofs.head.head_ok.Goals.{then-size-ge-HEAD, else-size-ge-HEAD}
 use Rattle.sheet_fields.proofs.head.head_ok.Goals as goal
 
-pub returns-then-size-lt-HEAD : goal.returns-then-size-lt-HEAD
-unfolding head_ok
-returns-then-size-lt-HEAD c = search cases
-
-pub returns-then-not-numbers_ok : goal.returns-then-not-numbers_ok
-unfolding head_ok
-returns-then-not-numbers_ok c = search (cases, said c.numbers_ok.ensures c.if-not-numbers_ok.true)
-
 pub literals_ok-requires : goal.literals_ok-requires
-literals_ok-requires c = let h = numbers_facts _ _ _ _ _ (said c.numbers_ok.ensures c.if-not-numbers_ok.false) in omega arith
-
-pub returns : goal.returns
-unfolding head_ok
-returns c = search (cases, said c.numbers_ok.ensures c.if-not-numbers_ok.false, c.literals_ok.ensures)
+literals_ok-requires c =
+    elim c.if-size-ge-HEAD.branch [
+      | then-size-ge-HEAD w ↦
+          let h = numbers_facts _ _ _ _ _ (said w.numbers_ok.ensures (said w.value-is c.if-numbers_ok.true)) in
+          omega arith
+      | else-size-ge-HEAD w ↦ both_ways c.if-numbers_ok.true (w.value-is ∙ lt-leb _ _ (omega arith))
+    ]

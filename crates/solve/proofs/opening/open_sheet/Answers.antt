@@ -1,22 +1,21 @@
 -- `solve::opening::open_sheet`: the refusals of solving. 8, and what solving leaves where there is none, close by the function's attribute.
 -- Assumes nothing.
-use Rattle.std.proofs.Common.{subst}
-use Rattle.sheet.specs.declared.layout.Verdict.{Verdict}
-use Rattle.solve.specs.Model.SolvingSheet.{SolvesSheet}
-use Rattle.solve.proofs.Opened.{opens_unsolved}
-use Rattle.solve.proofs.opening.open_sheet.Goals.{After-solve_sheet-solving}
+use Rattle.std.proofs.Common.{rules}
+use Rattle.std.proofs.lemmas.Result.{err_from_is_err_and}
+use Rattle.solve.proofs.Opened.{opens_unsolved, unsolved_answer}
 use Rattle.solve.proofs.opening.open_sheet.Goals as goal
 
--- what solving says of a verdict
-abbrev Says : After-solve_sheet-solving → Verdict → Type 0
-Says c v =
-    let r = c.solve_sheet-solving.result in
-    let after = c.solve_sheet-solving.new in
-    SolvesSheet c.args.ok c.args.s.now v r.sheet r.states r.kept r.start after.tuples after.cells after.dropped
+pub returns-in_err-solved : goal.returns-in_err-solved
+returns-in_err-solved c =
+    let p = err_from_is_err_and c.from_residual.result c.from_residual.ensures.1 in
+    let number = c.in_err-solved.ensures.memory in
+    rw (p.1, p.2)
+    (record {
+      memory = opens_unsolved c.args.ok c.args.s.now _ number;
+      answer = unsolved_answer c.args.ok c.args.s.now _ number;
+      start = tt;
+    })
 
-pub refused-requires : goal.refused-requires
-refused-requires c = tt
-
-pub returns-in-Refused : goal.returns-in-Refused
-returns-in-Refused c =
-    let both = (opens_unsolved _ (subst (Says (goal.at.returns-in-Refused c).After-solve_sheet-solving) c.in-Refused.is c.solve_sheet-solving.ensures.memory)) in record { memory = simp c.refused.ensures both.0; answer = simp c.refused.ensures both.1 }
+-- past the test the start is kept; the answer stands here so that a wrong test is told by this fact
+pub returns-clause-start : goal.returns-clause-start
+returns-clause-start c = search rules

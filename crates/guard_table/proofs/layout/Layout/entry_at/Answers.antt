@@ -13,7 +13,7 @@ use Rattle.guard_table.proofs.layout.Layout.entry_at.Goals as goal
 -- the entries before it lie in one row
 before : (c : After-width) → c.width.result * c.args.input ≤ row_most
 before c = let s = c in
-    mul-le-mul {n₂ = entry_width Wide} {m₂ = max_ins} (omega (arith, c.width.ensures, width_most s.args.self.kind)) s.requires.1.1
+    mul-le-mul {n₂ = entry_width Wide} {m₂ = max_ins} (omega (arith, c.width.ensures, width_most s.args.self.kind)) s.requires.1
 
 pub overflow_mul-result : goal.overflow_mul-result
 overflow_mul-result c = omega (arith, before c)

@@ -10,7 +10,7 @@ size : (c : After-pow2) → let s = c.args.self in c.width.result * c.pow2.resul
 size c = ap₂ ◌*◌ c.width.ensures c.pow2.ensures
 
 most : (c : After-pow2) → c.width.result * c.pow2.result ≤ row_most
-most c = let s = c.args.self in omega (arith, size c, row_most_lem s.kind s.inputs c.requires)
+most c = let s = c.args.self in omega (arith, size c, row_most_lem s.kind s.inputs s.inputs_most)
 
 pub overflow_mul-result : goal.overflow_mul-result
 overflow_mul-result c = omega (arith, most c)

@@ -1,7 +1,0 @@
--- `records::clear::clear16`: the front that is the whole. Assumes nothing.
-use Rattle.std.proofs.Common.{◌∙◌}
-use Rattle.records.specs.Laws.Lists.{put-replicate}
-use Rattle.records.proofs.clear.clear16.Goals as goal
-
-pub returns : goal.returns
-returns c = c.clear_front16.ensures ∙ put-replicate _ 0

@@ -1,0 +1,9 @@
+-- `values::values::ReadyGame::value_round`: the entries of the states before k. Assumes nothing.
+use Rattle.std.proofs.Common.{◌≡◌}
+use Rattle.records.specs.Model.Lists.{put}
+use Rattle.values.specs.Model.Values.{worth}
+use Rattle.values.specs.Model.Tables.{game_in}
+use Rattle.values.proofs.values.ReadyGame.value_round.Given as goal
+
+abbrev pub invariant-loop-k : goal.invariant-loop-k
+invariant-loop-k l = l.values ≡ put l.initial.values l.k (worth (game_in l.self.game) l.self.arrivals.now l.self.factor)
