@@ -8,6 +8,7 @@ use board::Board;
 use records::numbers::{put_u16, u16_at};
 
 // The four-byte number at an index.
+// No one function over the width, here and in `put_u32`: `from_le_bytes` is each integer's own.
 #[tactic(auto, unfolding(crate::specs::Meaning::BoardBytes::u32_at, records::specs::Meaning::Numbers::u16_at))]
 pub fn u32_at(s: &[u8], at: usize) -> u32
     requires { at + 4 ≤ length s.now }
@@ -17,6 +18,7 @@ pub fn u32_at(s: &[u8], at: usize) -> u32
 }
 
 // Writes a four-byte number at an index.
+// An index and no cut of the slice: the promise says of the whole slice that all else stays.
 pub fn put_u32(out: &mut [u8], at: usize, value: u32)
     requires { at + 4 ≤ length out.old }
     ensures { out.new ≡ sets out.old at (u32_bytes value) }
@@ -29,6 +31,7 @@ pub fn put_u32(out: &mut [u8], at: usize, value: u32)
 }
 
 // The board that the bytes stand for.
+// No `From`, here and in `put_board`: neither it nor `Board` is of this crate.
 pub fn board_in(s: &[u8; BoardBytes::LENGTH]) -> Board
     ensures { result ≡ board_in s.now }
 {

@@ -15,6 +15,7 @@ pub struct CardWords {}
 
 impl CardWords {
     // Both words of an entry that is lost: all ones, which are no number's bits.
+    // A mark and no Option: it is a word that crosses to C.
     pub const LOST: u64 = 0xffff_ffff_ffff_ffff;
 
     // The words of a card.
@@ -22,6 +23,7 @@ impl CardWords {
 }
 
 // Writes the words of an entry at an index: the bits of its best average, then of its least.
+// An index and no cut of the slice: the promise says of the whole slice that all else stays.
 #[tactic(auto, unfolding(crate::specs::Meaning::CardWords::entry_words))]
 fn put_entry(words: &mut [u64], at: usize, prospect: Prospect)
     requires at_in_bounds { at + 2 ≤ length words.old }

@@ -61,6 +61,7 @@ impl Forcing {
 
 // The solving's refusals, then 23 and 9, and the result is written only then. The work memory is left as it falls; `ok` says that it is
 // long enough.
+// `ok` and the slices go on to the opening as they came: it refuses 10 for all makers.
 fn make_with(
     ok: bool,
     s: &[u8],

@@ -25,6 +25,7 @@ pub struct ForecastWork<'a> {
 }
 
 // The card of a solved sheet whose start is kept: what steps earn, the sums over the horizon, and their averages.
+// What solving left comes slice by slice, as it does in `solve`.
 pub fn foretell(
     sheet: &ReadSheet,
     n: usize,
@@ -64,6 +65,7 @@ pub fn foretell(
 }
 
 // The opening, then the card. `ok` says that the work memory is long enough.
+// `ok` and the slices go on to the opening as they came: it refuses 10 for all makers.
 pub fn make_with(
     ok: bool,
     s: &[u8],

@@ -56,6 +56,7 @@ pub fn entry_in(table: &[u8], lines: u8, place: usize, input: usize) -> Entry
 }
 
 // Writes a next state at an index.
+// An index, here and below: the promise says of the whole slice that all else stays.
 fn put_next(res: &mut [u8], at: usize, kind: RowKind, next: u16)
     requires { (at + entry_width kind ≤ length res.old + 1) × (next < states_most kind) }
     ensures { res.new ≡ sets res.old at (next_bytes kind next) }

@@ -29,6 +29,7 @@ pub fn row_is(t: &[u8], at: usize, size: u16, kind: RowKind) -> bool
 }
 
 // Writes the head, at the start of the result.
+// Five numbers and no struct: one would be made for this call alone.
 pub fn put_head(res: &mut [u8], mode: u8, inputs: u8, outputs: u8, horizon: u8, count: u16)
     requires { head_length ≤ length res.old }
     ensures { res.new ≡ sets res.old 0 (guard_head mode inputs outputs horizon count) }

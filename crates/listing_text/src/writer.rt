@@ -13,6 +13,7 @@ pub struct Writer<'a> {
 }
 
 // The code of a digit.
+// No `char::from_digit`: it answers an Option of a char, of which this would be the byte.
 fn digit(n: usize) -> u8
     requires { n < 10 }
     ensures { result ≡ 48 + n }

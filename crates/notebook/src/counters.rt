@@ -14,7 +14,7 @@ pub struct TwoCounters {
 
 // The state of a counter of n states, in state q, after an output: one further if the line is on. `power` is 2 to the line's
 // number.
-// One counter's bound is a call's, here and below: no value of one alone is made, and two are `TwoCounters`.
+// One counter's bound is a call's, here and below: `front_byte` asks for no power, so that a struct of both would serve two functions alone.
 #[tactic(auto, unfolding(crate::specs::Model::Counters::count_on))]
 fn count_on(n: usize, power: usize, q: usize, output: usize) -> usize
     requires { (q < n) × ((n ≤ 32) × (1 ≤ power)) }

@@ -32,6 +32,7 @@ impl Span {
 
 // A game of n states in a round, for both sums: `highs` holds for each state what a step to it earns and what follows at best,
 // `lows` at least. Both have the same rounds, so that a cell is read once for the two: the project's form.
+// `n` stands beside the slices, which are lent as long as any sheet needs; bounds of a state or an input are a call's, as in `ReadyGame`.
 #[derive(Clone, Copy)]
 pub struct ReadyBoth<'a> {
     pub game: TableGame<'a>,

@@ -15,6 +15,7 @@ use values::values::StepCells;
 
 // Makes the guard table of a sheet. `ok` says that the work memory is long enough; it may hold anything, and is zero afterwards.
 // The slices come one by one, as C's caller lends them.
+// `ok` goes on to the opening, which refuses 10 for all makers.
 pub fn make_cleared(
     ok: bool,
     s: &[u8],
@@ -64,6 +65,7 @@ pub fn make_cleared(
 }
 
 // The opening, then the guard over the sheet's horizon, then 9, and the result is written only then. The work memory is left as it falls.
+// `ok` and the slices go on to the opening as they came: it refuses 10 for all makers.
 fn make_with<'a>(
     ok: bool,
     s: &[u8],

@@ -4,6 +4,7 @@ ghost use Rattle.std.proofs.lemmas.List.Edits.{sets};
 ghost use Rattle.records.specs.Meaning.Numbers.{u16_at, u16_bytes};
 
 // The byte at an index, 0 past the end.
+// An index and no cut, here and in all that reads by it: places are the format's, and promises name them.
 pub fn byte_at(s: &[u8], at: usize) -> u8
     ensures { result ≡ get_or s.now at 0 }
 {

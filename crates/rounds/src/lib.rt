@@ -68,6 +68,7 @@ pub fn cell_leads(cells: &[u16], dropped: &[u16], round: u16, at: usize) -> bool
 }
 
 // Whether a cell is an unbroken step to a state that is kept.
+// Round 0 is none, as in `dropped`; slices as in `cell_leads`.
 pub fn leads_to_kept(cells: &[u16], dropped: &[u16], at: usize) -> bool
     requires { CellLeads cells.now dropped.now at }
     ensures { result ≡ leads_in cells.now dropped.now at }

@@ -26,8 +26,9 @@ pub struct Monitor {
 
 // A sheet. `site` lines come from the site, `inputs` is the guard's number of input lines, `matching` is the match
 // weight. The first `outputs` literals and the first `count` monitors are the sheet's: arrays with a length, since memory is fixed and
-// there is no heap. The mode stays the sheet's byte, as roles and kinds do in the papers' form: tables' heads take it as it was read,
-// so an enum would be made here only to be turned back there.
+// there is no heap. The mode stays the sheet's byte, as roles and kinds do in the papers' form: tables' heads take it as it was read, and
+// promises hold of a layout of any mode. That the lines are few enough stands in contracts, here and in the other modules: as a fact of
+// this type it would be asked of all layouts.
 #[derive(Clone, Copy)]
 pub struct Sheet {
     pub mode: u8,

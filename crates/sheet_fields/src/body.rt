@@ -2,6 +2,7 @@
 ghost use Rattle.std.specs.Prelude.{◌+◌, ◌≤◌, length};
 
 // The `size` bytes from `start`, all of them inside the bytes.
+// Places and no cut of the bytes: a monitor keeps where its tables begin in the sheet.
 #[derive(Clone, Copy)]
 pub struct Body<'a> {
     pub bytes: &'a [u8],

@@ -11,7 +11,8 @@ use crate::places::Fixed;
 use records::limits::{Limits, lines_ok};
 
 // The guard's input lines: in mode 1 the proposal's lines come on top of the site's.
-// Bytes one by one, here and below: no test has passed yet that a struct of them could stand for.
+// Bytes one by one, here and below: no test has passed yet that a struct of them could stand for. The mode is one of them, and an enum
+// could not hold a refused one.
 #[tactic(auto, using(records::specs::Laws::Tests::cases), unfolding(crate::specs::Meaning::Lines::guard_lines))]
 pub fn guard_lines(mode: u8, site: u8, outputs: u8) -> u8
     requires { (site ≤ max_inputs) × (outputs ≤ max_outputs) }

@@ -43,6 +43,7 @@ pub struct TableGame<'a> {
 // A game of n states in a round. `arrivals` holds for each state what a step to it earns along every word of inputs that is still to
 // come, and what follows: gain and value as one number, made once a round and not once a step. `factor` is the number of these words.
 // That a state or an input is one of the game's stands in contracts: an index of a type of its own would be made in every turn.
+// `n` stands beside the slices, which are work memory lent as long as any sheet needs.
 #[derive(Clone, Copy)]
 pub struct ReadyGame<'a> {
     pub game: TableGame<'a>,
@@ -157,6 +158,7 @@ impl TableGame<'_> {
 }
 
 // The arrivals of the first `n` states, from what they gain and what they are worth.
+// `arrivals` and `factor` apart: no `ReadyGame` has them before this has filled them.
 pub fn prepare(gains: &[u16], values: &[u64], arrivals: &mut [u64], n: usize, factor: u64)
     requires gained { Gained n gains.now }
     requires valued { Valued n values.now factor }

@@ -3,6 +3,7 @@ use Rattle.std.proofs.Common.{arith, ◌∙◌}
 use lib.ListN.{length-set}
 use Rattle.guard_table.proofs.heads.put_head.Goals as goal
 
+-- four alike, of four stores: the check does not find them at half its limits
 pub bounds-res-5 : goal.bounds-res-5
 bounds-res-5 c = simp length-set (omega arith)
 
