@@ -14,7 +14,7 @@
  *
  * A wrong sheet, table, board or input is refused. A function answers HZ_OK or the number of a refusal, and of several grounds the
  * one that is named first. It always ends. It keeps no pointer and no state of its own, so that threads may call at once, each with
- * its own memory. Of the C library it needs memcpy and memset, of the stack some 26 KB for hz_forecast and under 2 KB for every
+ * its own memory. Of the C library it needs memcpy and memset, of the stack some 39 KB for hz_forecast and under 2 KB for every
  * other function (measured, not proved).
  *
  * hz_supervisor, hz_guard, hz_card and hz_play, at the end of this file, make the same calls with less to write.

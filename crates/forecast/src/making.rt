@@ -54,7 +54,7 @@ pub fn foretell(
         outs: pow2(layout.outputs),
     };
     fill_gains(sheet, tuples, gains, n);
-    fill_bonuses(sheet, bonuses, steps.ins, steps.outs);
+    fill_bonuses(layout, bonuses, steps.ins, steps.outs);
     let game = TableGame {
         steps,
         dropped,
@@ -66,6 +66,8 @@ pub fn foretell(
 
 // The opening, then the card. `ok` says that the work memory is long enough.
 // `ok` and the slices go on to the opening as they came: it refuses 10 for all makers.
+// Its goals are proved under any name, so that an edit of the refusal's way is refused for what it says.
+#[tactic(auto, using(crate::proofs::Answered::answers_refused, crate::proofs::Answered::answers_made))]
 pub fn make_with(
     ok: bool,
     s: &[u8],

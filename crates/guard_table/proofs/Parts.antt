@@ -8,7 +8,7 @@ use mathlib.Core.List.{List}
 use Prim.Native.Nat.{ℕ, ◌+◌, ◌≤◌, ◌<◌}
 use lib.Dec.{eqb}
 use lib.ListN.{length}
-use borrow.Author.Tests.{eqb-true, eq-eqb, le-leb, lt-leb}
+use borrow.Author.Tests.{eqb-true, eq-eqb, ne_eqb, le-leb, lt-leb}
 use Rattle.records.specs.Meaning.Numbers.{u16_at}
 use Rattle.records.specs.Laws.Tests.{by_test, both_ways, and_both, or_right}
 use Rattle.guard_table.specs.Meaning.RowKind.{kind_number}
@@ -109,6 +109,10 @@ module _ (t : List ℕ) where
   kind_or-narrow h (Some kind) e = e.1
 
   module _ (at size : ℕ) where
+    pub header_unsized : (kind : ℕ) {read : ℕ} → read ≡ u16_at t at → (read ≡ size → ⊥) → header_is t at size kind ≡ false
+    unfolding header_is
+    header_unsized kind r n = simp (ne_eqb (u16_at t at) size (λ e. n (r ∙ e)))
+
     module _ {read : ℕ} (r : read ≡ u16_at t at) (sized : read ≡ size)
         {part told : Part} (there : part ≡ part_of (u16_at t (at + 2))) (e : part ≡ told) where
       pub header-head : header_is t at size head_kind ≡ is_head told

@@ -1,4 +1,5 @@
-// An entry of a guard table: what a state answers at an input. Here it is read, written and tested, and nowhere else.
+// An entry of a guard table: what a state answers at an input. Here it is read, written and tested; a load tests each by itself
+// (`entry_in_range`, loadable.rt).
 ghost use Rattle.std.specs.Prelude.{◌≡◌, ◌+◌, ◌<◌, ◌≤◌, length};
 ghost use Rattle.std.proofs.lemmas.List.Edits.{sets};
 ghost use Rattle.records.specs.Meaning.Limits.{max_outputs};
@@ -19,7 +20,7 @@ pub struct Entry {
 }
 
 // The next state that stands at an index, after the output.
-fn next_at(kind: RowKind, table: &[u8], at: usize) -> u16
+pub(crate) fn next_at(kind: RowKind, table: &[u8], at: usize) -> u16
     requires { at + entry_width kind ≤ length table.now + 1 }
     ensures { result ≡ next_at kind table.now at }
 {
@@ -30,7 +31,7 @@ fn next_at(kind: RowKind, table: &[u8], at: usize) -> u16
 }
 
 // The entry of a state and an input, in rows of the kind that the table shows.
-pub(crate) fn entry_by(table: &[u8], layout: Layout, place: usize, input: usize) -> Entry
+fn entry_by(table: &[u8], layout: Layout, place: usize, input: usize) -> Entry
     requires shown { layout.kind ≡ kind_of table.now }
     requires inside { Inside table.now layout.inputs place input }
     ensures { (result.output ≡ output_in table.now layout.inputs place input)

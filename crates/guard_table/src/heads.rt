@@ -25,7 +25,14 @@ pub fn row_is(t: &[u8], at: usize, size: u16, kind: RowKind) -> bool
     requires { at + 3 < length t.now }
     ensures { result ≡ header_is t.now at size (kind_number kind) }
 {
-    u16_at(t, at) == size && part_at(t, at) == Part::Row(kind)
+    if u16_at(t, at) != size {
+        return false;
+    }
+    match part_at(t, at) {
+        Part::Row(found) => found.same(kind),
+        Part::Head => false,
+        Part::Other => false,
+    }
 }
 
 // Writes the head, at the start of the result.

@@ -1,5 +1,5 @@
 // The two kinds of rows, which differ in how an entry's next state is written, and the kind that a table shows.
-ghost use Rattle.std.specs.Prelude.{◌≡◌, ◌≤◌, true, false, length, MatchOption};
+ghost use Rattle.std.specs.Prelude.{◌≡◌, ◌≤◌, eqb, true, false, length, MatchOption};
 ghost use Rattle.guard_table.specs.Meaning.GuardTable.{shown_length, shows_kind, kind_of};
 ghost use Rattle.guard_table.specs.Meaning.RowKind.{kind_number, states_most, kind_for, entry_width};
 
@@ -41,6 +41,22 @@ impl RowKind {
         ensures { result ≡ kind_number self }
     {
         self as u16
+    }
+
+    // Whether another kind is this one. An arm for each two kinds, and no `==`, so that each can be held to its answer.
+    pub fn same(self, other: RowKind) -> bool
+        ensures { result ≡ eqb (kind_number self) (kind_number other) }
+    {
+        match self {
+            RowKind::Narrow => match other {
+                RowKind::Narrow => true,
+                RowKind::Wide => false,
+            },
+            RowKind::Wide => match other {
+                RowKind::Narrow => false,
+                RowKind::Wide => true,
+            },
+        }
     }
 
     // How many states a table with such rows may have.

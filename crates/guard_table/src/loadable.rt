@@ -1,12 +1,12 @@
 // Which slices are guard tables that a board may load.
-ghost use Rattle.std.specs.Prelude.{◌≡◌, true, false, ◌<◌, ◌≤◌, length, MatchOption};
+ghost use Rattle.std.specs.Prelude.{◌≡◌, true, false, ◌^◌, ◌<◌, ◌≤◌, length, MatchOption};
 ghost use Rattle.records.specs.Meaning.Limits.{max_inputs, max_outputs};
-ghost use Rattle.guard_table.specs.Meaning.GuardTable.{head_inputs, head_outputs, head_count, head_mode, head_horizon, shown_length, kind_of};
-ghost use Rattle.guard_table.specs.Meaning.Loadable.{size_ok, fields_ok, table_head_ok, entries_ok, row_ok, rows_ok, loadable};
+ghost use Rattle.guard_table.specs.Meaning.GuardTable.{head_inputs, head_outputs, head_count, head_mode, head_horizon, shown_length, kind_of, output_in, next_in};
+ghost use Rattle.guard_table.specs.Meaning.Loadable.{size_ok, fields_ok, table_head_ok, entry_ok, entries_ok, row_ok, rows_ok, loadable};
 ghost use Rattle.guard_table.specs.Model.Entries.{entry_passes};
 ghost use Rattle.guard_table.specs.Model.Inside.{Sized};
 
-use crate::entry::{entry_by, entry_ok};
+use crate::entry::next_at;
 use crate::heads::{head_is, row_is};
 use crate::kind::{RowKind, shown_kind};
 use crate::layout::Layout;
@@ -84,17 +84,28 @@ struct SizedTable<'a> {
 }
 
 impl SizedTable<'_> {
+    // Whether a state's entry at an input is in range.
+    // No `Entry`: where both its parts are read first the compiler tests the next state before the output, and a load of narrow rows takes a
+    // quarter more time.
+    fn entry_in_range(&self, place: usize, input: usize) -> bool
+        requires state { place < self.now.count }
+        requires input { input < 2 ^ self.now.layout.inputs }
+        ensures { result ≡ entry_ok (output_in self.now.bytes.now self.now.layout.inputs place input)
+            (next_in self.now.bytes.now self.now.layout.inputs place input) self.now.outputs self.now.count }
+    {
+        let at = self.layout.entry_at(place, input);
+        if pow2(self.outputs) <= self.bytes[at] as usize {
+            return false;
+        }
+        (next_at(self.layout.kind, self.bytes, at + 1) as usize) < self.count
+    }
+
     // Whether a state's entry at an input is in range, if there is such an input.
     fn entry_passes(&self, place: usize, input: usize) -> bool
         requires { place < self.now.count }
         ensures { result ≡ entry_passes self.now.bytes.now self.now.layout.inputs self.now.outputs self.now.count place input }
     {
-        pow2(self.layout.inputs) <= input
-            || entry_ok(
-                entry_by(self.bytes, self.layout, place, input),
-                self.outputs,
-                self.count,
-            )
+        pow2(self.layout.inputs) <= input || self.entry_in_range(place, input)
     }
 
     // Whether every entry of a state's row is in range. Tested are as many inputs as there can be: since the number of turns is fixed, the

@@ -183,6 +183,6 @@ pub extern "C" fn hz_list_1(
     ensures { ReportsListing table.now text.old text.new result figures.new }
 {
     let listed = Report::list(table, text);
-    *figures = [listed.unwrap_or(0) as u64];
+    *figures = [Report::length(listed) as u64];
     answer_number(listed) as u32
 }

@@ -77,7 +77,7 @@ fn print(
     ensures { PrintsRead memory.now size ended text.old result text.new }
 {
     if Listing::SHEET < size {
-        return Report::too_long(text).unwrap_or(0);
+        return Report::length(Report::too_long(text));
     }
     let read = &memory[..];
     if !ended {
@@ -113,5 +113,5 @@ fn print_guard(sheet: &[u8], text: &mut [u8; Report::TEXT]) -> usize
         &mut order,
         &mut numbers,
     );
-    Report::outcome(made, &result, text).unwrap_or(0)
+    Report::length(Report::outcome(made, &result, text))
 }

@@ -37,14 +37,17 @@ pub record Written (size : ℕ) (array s : List ℕ) : Type 0 where
   pub inside : size ≤ length array
   pub part : take size array ≡ s
 
-pub written : {n m size : ℕ} {array : List ℕ} → (n ≤ 32) × (m ≤ 32)
-    → (array ≡ sets (zeros 512) 0 (encode (counters n m))) × (size ≡ length (encode (counters n m)))
-    → Written size array (encode (counters n m))
-written {n} {m} {array = array} few e =
-    let s : List ℕ = encode (counters n m) in
-    let size : length s ≤ 512 = omega (arith, length_encoded n m few.0 few.1) in
+pub written : (s : List ℕ) {array : List ℕ} {size : ℕ} → length s ≤ 512 → (array ≡ sets (zeros 512) 0 s) × (size ≡ length s)
+    → Written size array s
+written s {array} h e =
     let long : length array ≡ 512 = ap length e.0 ∙ length-sets (zeros 512) 0 s ∙ zeros-length 512 in
     record {
-      inside = omega (arith, e.1, size);
-      part = rw (e.0, e.1, sets_front (zeros 512) s (omega (arith, size, zeros-length 512))) (take-append_seam s _);
+      inside = omega (arith, e.1);
+      part = rw (e.0, e.1, sets_front (zeros 512) s (omega (arith, zeros-length 512))) (take-append_seam s _);
     }
+
+-- those of two counters have room
+pub counters_written : {n m size : ℕ} {array : List ℕ} → (n ≤ 32) × (m ≤ 32)
+    → (array ≡ sets (zeros 512) 0 (encode (counters n m))) × (size ≡ length (encode (counters n m)))
+    → Written size array (encode (counters n m))
+counters_written {n} {m} few e = written (encode (counters n m)) (omega (arith, length_encoded n m few.0 few.1)) e

@@ -66,10 +66,10 @@ module _ {pick : Pick} (under : Under pick) {g : Game} {values : List ℕ} {fact
 
 -- a game in a round is ready for either sum
 module _ (r : ReadyBoth) {k : ℕ} (h : k < r.n) where
-  pub ready_high : Ready (game_in r.game) r.highs.now r.factor k
+  pub ready_high : Ready (game_in r.rounds.game) r.rounds.highs.now r.rounds.factor k
   ready_high = record { states = r.n; sized = r.sized; valued = r.high; state = h }
 
-  pub ready_low : Ready (game_in r.game) r.lows.now r.factor k
+  pub ready_low : Ready (game_in r.rounds.game) r.rounds.lows.now r.rounds.factor k
   ready_low = record { states = r.n; sized = r.sized; valued = r.low; state = h }
 
 -- the sums over the inputs before i

@@ -8,7 +8,7 @@ ghost use Rattle.values.specs.Model.Values.{SizedGame};
 ghost use Rattle.values.specs.Model.Tables.{game_with};
 ghost use Rattle.outlook.specs.Model.Outlook.{table_value};
 
-use crate::span::ReadyBoth;
+use crate::span::{ReadyBoth, RoundBoth};
 use values::values::{TableGame, prepare};
 
 // The sums of the first `n` states over a horizon, in `bests` and `leasts`; what it answers is the number of words of so many inputs.
@@ -39,13 +39,13 @@ pub fn foresee(
     for _ in 0..horizon {
         prepare(gains, bests, highs, n, factor);
         prepare(gains, leasts, lows, n, factor);
-        let ready = ReadyBoth {
+        let rounds = RoundBoth {
             game: *game,
-            n,
             highs,
             lows,
             factor,
         };
+        let ready = ReadyBoth { rounds, n };
         ready.sums_round(bests, leasts);
         factor *= game.steps.ins as u64;
     }

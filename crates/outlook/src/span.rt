@@ -1,11 +1,11 @@
 // The scores of the outputs that may be given at an input: the largest and the smallest.
 ghost use Rattle.std.specs.Prelude.{◌≡◌, ◌<◌};
 ghost use Rattle.values.specs.Model.Values.{SizedGame};
-ghost use Rattle.values.specs.Model.Sizes.{Valued};
+ghost use Rattle.values.specs.Model.Sizes.{Valued, Ready};
 ghost use Rattle.values.specs.Model.Tables.{game_in};
 ghost use Rattle.outlook.specs.Model.Spans.{widened, span_of};
 
-use values::values::{ReadyGame, TableGame};
+use values::values::{RoundGame, TableGame};
 
 // The largest and the smallest score of some outputs, of which there is one at least.
 #[derive(Clone, Copy)]
@@ -30,37 +30,31 @@ impl Span {
     }
 }
 
-// A game of n states in a round, for both sums: `highs` holds for each state what a step to it earns and what follows at best,
-// `lows` at least. Both have the same rounds, so that a cell is read once for the two: the project's form.
-// `n` stands beside the slices, which are lent as long as any sheet needs; bounds of a state or an input are a call's, as in `ReadyGame`.
+// A game in a round, for both sums: `highs` holds for each state what a step to it earns and what follows at best, `lows` at least. Both
+// have the same rounds, so that a cell is read once for the two: the project's form.
 #[derive(Clone, Copy)]
-pub struct ReadyBoth<'a> {
+pub struct RoundBoth<'a> {
     pub game: TableGame<'a>,
-    pub n: usize,
     pub highs: &'a [u64],
     pub lows: &'a [u64],
     pub factor: u64,
-    pub ghost sized: { SizedGame (game_in game) n },
-    pub ghost high: { Valued n highs.now factor },
-    pub ghost low: { Valued n lows.now factor },
 }
 
-impl ReadyBoth<'_> {
+impl RoundBoth<'_> {
     // The span of a state at an input; none if no output may be given.
-    pub(crate) fn span_at(&self, k: usize, i: usize) -> Option<Span>
-        requires state { k < self.now.n }
+    pub fn span_at(&self, k: usize, i: usize) -> Option<Span>
+        requires high { Ready (game_in self.now.game) self.now.highs.now self.now.factor k }
+        requires low { Ready (game_in self.now.game) self.now.lows.now self.now.factor k }
         requires input { i < self.now.game.steps.ins }
         ensures { result ≡ span_of (game_in self.now.game) self.now.highs.now self.now.lows.now self.now.factor k i }
     {
-        let high = ReadyGame {
+        let high = RoundGame {
             game: self.game,
-            n: self.n,
             arrivals: self.highs,
             factor: self.factor,
         };
-        let low = ReadyGame {
+        let low = RoundGame {
             game: self.game,
-            n: self.n,
             arrivals: self.lows,
             factor: self.factor,
         };
@@ -75,4 +69,15 @@ impl ReadyBoth<'_> {
         }
         span
     }
+}
+
+// Such a game of n states, with values of both kinds for all of them.
+// `n` stands beside the slices, which are lent as long as any sheet needs.
+#[derive(Clone, Copy)]
+pub struct ReadyBoth<'a> {
+    pub rounds: RoundBoth<'a>,
+    pub n: usize,
+    pub ghost sized: { SizedGame (game_in rounds.game) n },
+    pub ghost high: { Valued n rounds.highs.now rounds.factor },
+    pub ghost low: { Valued n rounds.lows.now rounds.factor },
 }

@@ -4,7 +4,7 @@
 ghost use Rattle.std.specs.Prelude.{◌≡◌, true};
 ghost use Rattle.guard_table.specs.Meaning.Loadable.{loadable};
 ghost use Rattle.listing_text.specs.Meaning.Listing.{listing_of, refused_text, too_long_text};
-ghost use Rattle.report.specs.Promises.Report.{refusal_number, outcome_due, outcome_text, Writes};
+ghost use Rattle.report.specs.Promises.Report.{refusal_number, listed_length, outcome_due, outcome_text, Writes};
 ghost use Rattle.report.specs.Laws.Numbers.{list_refuses};
 
 use guard_table::loadable::is_loadable;
@@ -45,6 +45,17 @@ impl Report {
 
     // No text is longer.
     pub const TEXT: usize = Report::HEAD_LINE + Report::ROW_LINE * Limits::STATES;
+
+    // The bytes of the text that a writer answered, 0 where it wrote none. An arm for each ground, so that each can be held to 0.
+    pub fn length(listed: Result<usize, ListRefusal>) -> usize
+        ensures { result ≡ listed_length listed }
+    {
+        match listed {
+            Ok(size) => size,
+            Err(ListRefusal::NoTable) => 0,
+            Err(ListRefusal::ShortText) => 0,
+        }
+    }
 
     // The listing of a table, at the start of the text memory.
     pub fn list(table: &[u8], text: &mut [u8]) -> Result<usize, ListRefusal>

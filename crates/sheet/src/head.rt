@@ -11,7 +11,7 @@ use sheet_fields::head::{guard_lines, head_ok, literal_at};
 
 // The sheet of a head that is in order, with no monitors yet.
 #[tactic(auto, unfolding(crate::specs::Model::HeadRecord::head_sheet))]
-fn head_sheet(body: &Body) -> Sheet
+pub fn head_sheet(body: &Body) -> Sheet
     requires { (site_at body.now.bytes.now body.now.start ≤ max_inputs) ×
         ((outputs_at body.now.bytes.now body.now.start ≤ max_outputs) ×
         (literals_from body.now.start + outputs_at body.now.bytes.now body.now.start ≤ length body.now.bytes.now)) }

@@ -33,7 +33,7 @@ pub fn monitor_ok(body: &Body, sheet: Sheet) -> bool
 
 // The monitor of a body.
 #[tactic(auto, unfolding(crate::specs::Model::MonitorRecord::monitor_at))]
-fn monitor_at(body: &Body) -> Monitor
+pub fn monitor_at(body: &Body) -> Monitor
     requires { accept_from body.now.start ≤ length body.now.bytes.now }
     ensures { result ≡ monitor_at body.now.bytes.now body.now.start }
 {

@@ -2,9 +2,10 @@
 ghost use Rattle.std.specs.Prelude.{◌≡◌, ◌<◌};
 ghost use Rattle.values.specs.Model.Arrivals.{ranked_choice};
 ghost use Rattle.values.specs.Model.Leaders.{goes_before, challenged};
+ghost use Rattle.values.specs.Model.Sizes.{Ready};
 ghost use Rattle.values.specs.Model.Tables.{game_in};
 
-use crate::values::ReadyGame;
+use crate::values::RoundGame;
 use records::limits::Limits;
 
 // An output with its score and its rank: a candidate, and the one that leads so far, where one does.
@@ -38,12 +39,12 @@ impl Leader {
     }
 }
 
-impl ReadyGame<'_> {
+impl RoundGame<'_> {
     // The choice of a state at an input: outputs in turn, of those allowed the one that leads; 0 if none is allowed.
     // `ranks` holds the rank of each output.
     // A number and no Option: `ranked_choice` has 0 there. The ranks stand beside the game, since values are worked out without them.
     pub fn choose_output(&self, ranks: [usize; Limits::OUTS], k: usize, i: usize) -> u8
-        requires state { k < self.now.n }
+        requires ready { Ready (game_in self.now.game) self.now.arrivals.now self.now.factor k }
         requires input { i < self.now.game.steps.ins }
         ensures { result ≡ ranked_choice (game_in self.now.game) ranks self.now.arrivals.now self.now.factor k i }
     {

@@ -6,7 +6,7 @@ ghost use Rattle.records.specs.Model.Lists.{put};
 ghost use Rattle.rounds.specs.Model.TableRounds.{cell_at};
 ghost use Rattle.rounds.specs.Laws.CellPlaces.{InRow};
 ghost use Rattle.values.specs.Model.Values.{SizedGame, worth, value_row};
-ghost use Rattle.values.specs.Model.Sizes.{Valued, best_of};
+ghost use Rattle.values.specs.Model.Sizes.{Valued, Ready, best_of};
 ghost use Rattle.values.specs.Model.Arrivals.{arrival, Gained, score_in, Scored, offer_of};
 ghost use Rattle.values.specs.Model.Tables.{game_in, game_with};
 
@@ -40,21 +40,18 @@ pub struct TableGame<'a> {
     pub bonuses: &'a [u16],
 }
 
-// A game of n states in a round. `arrivals` holds for each state what a step to it earns along every word of inputs that is still to
-// come, and what follows: gain and value as one number, made once a round and not once a step. `factor` is the number of these words.
-// That a state or an input is one of the game's stands in contracts: an index of a type of its own would be made in every turn.
-// `n` stands beside the slices, which are work memory lent as long as any sheet needs.
+// A game in a round. `arrivals` holds for each state what a step to it earns along every word of inputs that is still to come, and what
+// follows: gain and value as one number, made once a round and not once a step. `factor` is the number of these words.
+// That a state is one that the values are of (`Ready`), and an input one of the game's, stands in contracts: an index of a type of its own
+// would be made in every turn, and a number of states would be asked of all.
 #[derive(Clone, Copy)]
-pub struct ReadyGame<'a> {
+pub struct RoundGame<'a> {
     pub game: TableGame<'a>,
-    pub n: usize,
     pub arrivals: &'a [u64],
     pub factor: u64,
-    pub ghost sized: { SizedGame (game_in game) n },
-    pub ghost valued: { Valued n arrivals.now factor },
 }
 
-impl ReadyGame<'_> {
+impl RoundGame<'_> {
     // The score of a step to the state `to` by a letter: what it earns along every word to come, and what follows.
     #[tactic(auto, unfolding(crate::specs::Model::Arrivals::score_in))]
     pub fn score_of(&self, to: usize, letter: usize) -> u64
@@ -66,7 +63,7 @@ impl ReadyGame<'_> {
 
     // What an output offers in a state at an input: the score of its step; none if it is not allowed.
     pub fn offer_of(&self, k: usize, i: usize, o: usize) -> Option<u64>
-        requires state { k < self.now.n }
+        requires ready { Ready (game_in self.now.game) self.now.arrivals.now self.now.factor k }
         requires input { i < self.now.game.steps.ins }
         requires output { o < self.now.game.steps.outs }
         ensures { result ≡ offer_of (game_in self.now.game) self.now.arrivals.now self.now.factor k i o }
@@ -80,8 +77,8 @@ impl ReadyGame<'_> {
     }
 
     // The largest score of a state at an input over the outputs that may be given, 0 if none may.
-    fn best_score(&self, k: usize, i: usize) -> u64
-        requires state { k < self.now.n }
+    pub fn best_score(&self, k: usize, i: usize) -> u64
+        requires ready { Ready (game_in self.now.game) self.now.arrivals.now self.now.factor k }
         requires input { i < self.now.game.steps.ins }
         ensures { result ≡ best_of (game_in self.now.game) self.now.arrivals.now self.now.factor k i }
     {
@@ -95,8 +92,8 @@ impl ReadyGame<'_> {
     }
 
     // What a state is worth one step earlier: the sum of its best scores over the inputs, 0 unless it is kept.
-    fn worth_of(&self, k: usize) -> u64
-        requires { k < self.now.n }
+    pub fn worth_of(&self, k: usize) -> u64
+        requires { Ready (game_in self.now.game) self.now.arrivals.now self.now.factor k }
         ensures { result ≡ worth (game_in self.now.game) self.now.arrivals.now self.now.factor k }
     {
         if !is_kept(self.game.dropped, k) {
@@ -108,14 +105,27 @@ impl ReadyGame<'_> {
         }
         sum
     }
+}
 
+// Such a game of n states, with values for all of them.
+// `n` stands beside the slices, which are work memory lent as long as any sheet needs.
+#[derive(Clone, Copy)]
+pub struct ReadyGame<'a> {
+    pub round: RoundGame<'a>,
+    pub n: usize,
+    pub ghost sized: { SizedGame (game_in round.game) n },
+    pub ghost valued: { Valued n round.arrivals.now round.factor },
+}
+
+impl ReadyGame<'_> {
     // The row for one step more, from the arrivals.
     pub fn value_round(&self, values: &mut [u64])
         requires { self.now.n ≤ length values.old }
-        ensures { values.new ≡ put values.old self.now.n (worth (game_in self.now.game) self.now.arrivals.now self.now.factor) }
+        ensures { values.new ≡ put values.old self.now.n
+            (worth (game_in self.now.round.game) self.now.round.arrivals.now self.now.round.factor) }
     {
         for k in 0..self.n {
-            values[k] = self.worth_of(k);
+            values[k] = self.round.worth_of(k);
         }
     }
 }
@@ -143,12 +153,12 @@ impl TableGame<'_> {
         let mut factor: u64 = 1;
         for _ in 0..horizon {
             prepare(gains, values, arrivals, n, factor);
-            let ready = ReadyGame {
+            let round = RoundGame {
                 game: *self,
-                n,
                 arrivals,
                 factor,
             };
+            let ready = ReadyGame { round, n };
             ready.value_round(values);
             factor *= self.steps.ins as u64;
         }

@@ -20,8 +20,11 @@ pow2-requires-2 c = omega (arith, outputs_low c.args.sheet.now.fits)
 pub fill_gains-requires-clause-by_index : goal.fill_gains-requires-clause-by_index
 fill_gains-requires-clause-by_index c = tuples_in_range c.args.sheet.now.fits.ok c.requires.playable
 
-pub fill_bonuses-requires : goal.fill_bonuses-requires
-fill_bonuses-requires c =
+pub fill_bonuses-requires-clause-fits : goal.fill_bonuses-requires-clause-fits
+fill_bonuses-requires-clause-fits c = (c.args.sheet.now.bytes.now, c.args.sheet.now.fits)
+
+pub fill_bonuses-requires-clause-room : goal.fill_bonuses-requires-clause-room
+fill_bonuses-requires-clause-room c =
     let counts = counts_low c.args.sheet.now.fits c.requires.playable _ _ c.pow2.ensures c.pow2-2.ensures in
     (counts.0, omega (arith, counts.4, c.requires.forecast_room.bonuses_long))
 

@@ -6,7 +6,7 @@ use Rattle.sheet.specs.Laws.LayoutFacts.{outputs_low}
 use Rattle.sheet.specs.Model.Meant.{meant}
 use Rattle.values.specs.Model.Tables.{steps_in}
 use Rattle.plan.specs.Model.Planned.{Planned}
-use Rattle.plan.specs.Laws.Planned.{tuples_in_range, counts_low, plan_words, plan_sized, plan_ready, plan_choosing, plan_made}
+use Rattle.plan.specs.Laws.Planned.{tuples_in_range, counts_low, plan_words, plan_sized, plan_choosing, plan_made}
 use Rattle.plan.proofs.horizon.plan.Goals.{Start, After-guard_states-count}
 use Rattle.plan.proofs.horizon.plan.Goals as goal
 
@@ -16,8 +16,11 @@ wide-dropped c = omega (arith, c.requires.room.dropped_long)
 pub fill_gains-requires-clause-by_index : goal.fill_gains-requires-clause-by_index
 fill_gains-requires-clause-by_index c = tuples_in_range c.args.sheet.now.fits.ok c.requires.playable
 
-pub fill_bonuses-requires : goal.fill_bonuses-requires
-fill_bonuses-requires c =
+pub fill_bonuses-requires-clause-fits : goal.fill_bonuses-requires-clause-fits
+fill_bonuses-requires-clause-fits c = (c.args.sheet.now.bytes.now, c.args.sheet.now.fits)
+
+pub fill_bonuses-requires-clause-room : goal.fill_bonuses-requires-clause-room
+fill_bonuses-requires-clause-room c =
     let counts = counts_low c.args.sheet.now.fits c.requires.playable _ _ c.requires.letters.0 c.requires.letters.1 in
     (counts.0, omega (arith, counts.4, c.requires.room.bonuses_long))
 
@@ -37,27 +40,16 @@ value_rows-factor-requires-clause-horizon_in_bounds c =
 pub ranks_of-ranks-requires : goal.ranks_of-ranks-requires
 ranks_of-ranks-requires c = outputs_low c.args.sheet.now.fits
 
-pub invariant_of-ready : goal.invariant_of-ready
-invariant_of-ready c =
+pub guard_states-count-requires-clause-choosing : goal.guard_states-count-requires-clause-choosing
+guard_states-count-requires-clause-choosing c =
     let a = c.args in
     let long = c.requires.room in
     let rows = c.value_rows-factor.ensures in
-    let p = plan_ready a.sheet.now.fits c.requires.playable _ _ c.requires.letters.0 c.requires.letters.1
+    plan_choosing a.sheet.now.fits c.requires.playable _ _ c.requires.letters.0 c.requires.letters.1
     a.work.gains.now a.work.bonuses.now c.fill_gains.ensures (c.fill_bonuses.ensures a.sheet.now.bytes.now)
-    long.gains_long long.bonuses_long long.cells_long (wide-dropped (goal.at.invariant_of-ready c).Start) _ c.requires.horizon
-    a.work.values.now a.work.arrivals.now rows.row rows.words rows.arrivals long.values_long long.arrivals_long c.ranks_of-ranks.ensures in
-    record { sized = p.0; valued = p.1 }
-
-pub guard_states-count-requires-clause-following : goal.guard_states-count-requires-clause-following
-guard_states-count-requires-clause-following c =
-    let a = c.args in
-    let long = c.requires.room in
-    let rows = c.value_rows-factor.ensures in
-    (plan_choosing a.sheet.now.fits c.requires.playable _ _ c.requires.letters.0 c.requires.letters.1
-    a.work.gains.now a.work.bonuses.now c.fill_gains.ensures (c.fill_bonuses.ensures a.sheet.now.bytes.now)
-    long.gains_long long.bonuses_long long.cells_long (wide-dropped (goal.at.guard_states-count-requires-clause-following c).Start) _
+    long.gains_long long.bonuses_long long.cells_long (wide-dropped (goal.at.guard_states-count-requires-clause-choosing c).Start) _
     c.requires.horizon
-    a.work.values.now a.work.arrivals.now rows.row rows.words rows.arrivals long.values_long long.arrivals_long c.ranks_of-ranks.ensures).following
+    a.work.values.now a.work.arrivals.now rows.row rows.words rows.arrivals long.values_long long.arrivals_long c.ranks_of-ranks.ensures
 
 -- the guard that is planned
 made : (c : After-guard_states-count) → let a = c.args in

@@ -9,6 +9,6 @@ use Rattle.outlook.proofs.span.ReadyBoth.sums_round.Given as goal
 
 abbrev pub invariant-loop-k : goal.invariant-loop-k
 invariant-loop-k l =
-    let g = game_in l.self.game in
-    (l.bests ≡ put l.initial.bests l.k (worth_by top g l.self.highs.now l.self.factor))
-    × (l.leasts ≡ put l.initial.leasts l.k (worth_by bottom g l.self.lows.now l.self.factor))
+    let r = l.self.rounds in
+    (l.bests ≡ put l.initial.bests l.k (worth_by top (game_in r.game) r.highs.now r.factor))
+    × (l.leasts ≡ put l.initial.leasts l.k (worth_by bottom (game_in r.game) r.lows.now r.factor))

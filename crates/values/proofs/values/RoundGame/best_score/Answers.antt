@@ -1,9 +1,9 @@
--- `values::values::ReadyGame::best_score`: the best score of the outputs before o. Assumes nothing.
+-- `values::values::RoundGame::best_score`: the best score of the outputs before o. Assumes nothing.
 use Rattle.std.proofs.Common.{sym, ◌∙◌}
 use Rattle.records.specs.Laws.Bounded.{top_none}
 use Rattle.values.proofs.Best.{best_more, best_same}
-use Rattle.values.proofs.values.ReadyGame.best_score.Goals.{in-Some, in_default}
-use Rattle.values.proofs.values.ReadyGame.best_score.Goals as goal
+use Rattle.values.proofs.values.RoundGame.best_score.Goals.{in-Some, in_default}
+use Rattle.values.proofs.values.RoundGame.best_score.Goals as goal
 
 pub loop-o-init : goal.loop-o-init
 loop-o-init c = sym (top_none _ _)

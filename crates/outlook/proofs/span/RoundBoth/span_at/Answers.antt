@@ -1,13 +1,12 @@
--- `outlook::span::ReadyBoth::span_at`: the span of the outputs before o. Assumes nothing.
+-- `outlook::span::RoundBoth::span_at`: the span of the outputs before o. Assumes nothing.
 use Rattle.std.proofs.Common.{arith, refl, sym, ◌∙◌, ◌≡◌, ◌≤◌}
 use lib.ListN.{length}
 use Rattle.rounds.specs.Laws.CellPlaces.{max_index}
 use Rattle.values.specs.Model.Values.{cell_next}
 use Rattle.values.specs.Model.Tables.{game_in}
 use Rattle.outlook.specs.Laws.Spans.{Lands, lands, span_begin, span_more, span_same, span_end}
-use Rattle.outlook.proofs.Summing.{ready_low}
-use Rattle.outlook.proofs.span.ReadyBoth.span_at.Goals.{In-Some, in-Some, in_default}
-use Rattle.outlook.proofs.span.ReadyBoth.span_at.Goals as goal
+use Rattle.outlook.proofs.span.RoundBoth.span_at.Goals.{In-Some, in-Some, in_default}
+use Rattle.outlook.proofs.span.RoundBoth.span_at.Goals as goal
 
 -- what reading the cell of an output that is allowed asks
 landed : (c : In-Some)
@@ -15,7 +14,7 @@ landed : (c : In-Some)
 landed c =
     let r = c.args.self.now in
     let size : length r.game.steps.cells.now ≤ max_index = omega arith in
-    lands (ready_low r c.requires.state) c.requires.input c.loop-o-test.true size _ (sym c.in-Some.is ∙ c.offer_of.ensures)
+    lands c.requires.low c.requires.input c.loop-o-test.true size _ (sym c.in-Some.is ∙ c.offer_of.ensures)
 
 pub loop-o-init : goal.loop-o-init
 loop-o-init c = span_begin _ _ _ _ _ _

@@ -1,8 +1,8 @@
--- `values::values::ReadyGame::choose_output`: the leader of the outputs before o. Assumes nothing.
+-- `values::values::RoundGame::choose_output`: the leader of the outputs before o. Assumes nothing.
 use Rattle.std.proofs.Common.{arith, sym, ◌∙◌, ◌≡◌}
 use Rattle.values.proofs.Leading.{lead_begin, lead_more, lead_same, lead_end, lead_none}
-use Rattle.values.proofs.values.ReadyGame.choose_output.Goals.{in-Some, in_default}
-use Rattle.values.proofs.values.ReadyGame.choose_output.Goals as goal
+use Rattle.values.proofs.values.RoundGame.choose_output.Goals.{in-Some, in_default}
+use Rattle.values.proofs.values.RoundGame.choose_output.Goals as goal
 
 pub loop-o-init : goal.loop-o-init
 loop-o-init c = lead_begin _ _ _ _ _ _
@@ -18,7 +18,7 @@ pub overflow_cast-result : goal.overflow_cast-result
 overflow_cast-result c =
     let e : c.loop-o.o ≡ c.args.self.now.game.steps.outs = omega (arith, c.loop-o-test.false) in
     let low = (lead_end _ _ _ _ _ _ _ e (sym c.in-Some-leader.is ∙ c.loop-o.invariant)).1 in
-    record { fits = omega (arith, low, c.args.self.now.sized.outputs_most) }
+    record { fits = omega (arith, low, c.requires.ready.sized.outputs_most) }
 
 pub returns-in-Some-leader : goal.returns-in-Some-leader
 returns-in-Some-leader c =
