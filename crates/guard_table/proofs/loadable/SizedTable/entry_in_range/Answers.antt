@@ -1,5 +1,5 @@
 -- `guard_table::loadable::SizedTable::entry_in_range`: the output's test, then the next state's. Assumes nothing.
-use Rattle.std.proofs.Common.{arith, refl, ◌+◌, ◌^◌, ◌≡◌, ◌≤◌}
+use Rattle.std.proofs.Common.{arith, refl, ◌+◌, ◌<◌, ◌^◌, ◌≡◌, ◌≤◌}
 use lib.ListN.{length, get_or}
 use lib.Pow.{pow_mono}
 use borrow.Author.Tests.{le-ltb, lt-ltb}
@@ -47,11 +47,15 @@ pub returns-then-pow2-self : goal.returns-then-pow2-self
 unfolding entry_ok
 returns-then-pow2-self c =
     let at = (goal.at.returns-then-pow2-self c).After-entry_at-at in
-    rw (← output at, le-ltb _ _ (rw c.pow2.ensures at c.if-pow2-self.true)) refl
+    let most : 2 ^ c.args.self.now.outputs ≤ get_or c.args.self.now.bytes.now c.entry_at-at.result 0 =
+    omega (arith, c.pow2.ensures, c.if-pow2-self.true) in
+    rw (← output at, le-ltb _ _ most) refl
 
 pub returns : goal.returns
 unfolding entry_ok
 returns c =
     let at = (goal.at.returns c).After-entry_at-at in
     let read = entry_read _ _ _ _ c.args.self.now.shown c.entry_at-at.ensures c.next_at.ensures in
-    rw (← output at, lt-ltb _ _ (rw c.pow2.ensures at c.if-pow2-self.false), read.1) refl
+    let low : get_or c.args.self.now.bytes.now c.entry_at-at.result 0 < 2 ^ c.args.self.now.outputs =
+    omega (arith, c.pow2.ensures, c.if-pow2-self.false) in
+    rw (← output at, lt-ltb _ _ low, read.1) refl
